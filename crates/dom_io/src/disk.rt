@@ -1,0 +1,70 @@
+ghost use Rattle.std.specs.Prelude.{◌≡◌, None};
+
+use crate::shelf::{Shelf, ShelfFault};
+use std::alloc::Global;
+use std::fs::{self};
+use std::io::Read;
+use std::rt::Files;
+
+const BUFFER_BYTES: usize = 16384;
+
+/// Reads real files through the runtime. It tells no content. Its one count, that of every name, rises by one at each
+/// refused open or read, up to the greatest u64.
+#[derive(Drop)]
+pub struct DiskShelf<'a, R: Files> {
+    rt: &'a R,
+    alloc: Global,
+    faults: u64,
+}
+
+impl<'a, R: Files> DiskShelf<'a, R> {
+    /// A shelf of the runtime's files, with the count 0.
+    pub fn new(rt: &'a R, alloc: Global) -> DiskShelf<'a, R>
+        ensures { result.faults ≡ 0 }
+    {
+        DiskShelf {
+            rt,
+            alloc,
+            faults: 0,
+        }
+    }
+}
+
+impl<'a, R: Files> Shelf for DiskShelf<'a, R> {
+    ghost content = { λ _ _. None };
+
+    ghost faults = { λ s _. s.faults };
+
+    fn read(&mut self, name: &str, most: usize) -> Result<Vec<u8>, ShelfFault> {
+        let result = read_file(self.rt, self.alloc, name, most);
+        if let Err(ShelfFault::Failed) = &result {
+            self.faults = self.faults.saturating_add(1);
+        }
+        result
+    }
+}
+
+// The first bytes of a file, read by and by until there are enough of them or no more come.
+fn read_file<R: Files>(
+    rt: &R,
+    alloc: Global,
+    name: &str,
+    most: usize,
+) -> Result<Vec<u8>, ShelfFault> {
+    let mut file = fs::open(rt, name).map_err(|_| ShelfFault::Failed)?;
+    let mut bytes = Vec::new(alloc);
+    let mut buffer = [0; BUFFER_BYTES];
+    while bytes.len() < most {
+        let wanted = (most - bytes.len()).min(buffer.len());
+        let count = file
+            .read(&mut buffer[..wanted])
+            .map_err(|_| ShelfFault::Failed)?;
+        if count == 0 {
+            break;
+        }
+        bytes
+            .extend_from_slice(&buffer[..count])
+            .map_err(|_| ShelfFault::Memory)?;
+    }
+    Ok(bytes)
+}

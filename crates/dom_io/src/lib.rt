@@ -1,0 +1,18 @@
+//! Where the bytes of programs and traces come from, and where the bytes of a result go to.
+#![tactic(auto)]
+
+mod disk;
+mod mem_shelf;
+mod mem_sink;
+mod out;
+mod shelf;
+mod sink;
+#[cfg(test)]
+mod tests;
+
+pub use disk::DiskShelf;
+pub use mem_shelf::MemShelf;
+pub use mem_sink::MemSink;
+pub use out::OutSink;
+pub use shelf::{Shelf, ShelfFault};
+pub use sink::{Sink, SinkFault};

@@ -1,0 +1,48 @@
+ghost use Rattle.std.specs.Prelude.{◌≡◌, ℕ, None};
+
+use crate::sink::{Sink, SinkFault};
+use std::io::Write;
+
+/// Writes to a real output, and flushes after each put. It tells no content. Its count rises by one at each refused
+/// write or flush, up to the greatest u64.
+#[derive(Drop)]
+pub struct OutSink<W> {
+    out: W,
+    faults: u64,
+}
+
+impl<W: Write> OutSink<W> {
+    /// A sink over this output, with the count 0.
+    pub fn new(out: W) -> OutSink<W>
+        ensures { result.faults ≡ 0 }
+    {
+        OutSink { out, faults: 0 }
+    }
+}
+
+impl<W: Write> Sink for OutSink<W> {
+    ghost held = { λ _. None };
+
+    ghost faults = { λ s. s.faults };
+
+    fn put(&mut self, bytes: &[u8]) -> Result<(), SinkFault> {
+        let result = write_and_flush(&mut self.out, bytes);
+        if result.is_err() {
+            self.faults = self.faults.saturating_add(1);
+        }
+        result
+    }
+}
+
+// All of the bytes, in as many writes as the output needs. An output that takes nothing of them has failed.
+fn write_and_flush<W: Write>(out: &mut W, bytes: &[u8]) -> Result<(), SinkFault> {
+    let mut rest = bytes;
+    while !rest.is_empty() {
+        let count = out.write(rest).map_err(|_| SinkFault)?;
+        if count == 0 {
+            return Err(SinkFault);
+        }
+        rest = &rest[count..];
+    }
+    out.flush().map_err(|_| SinkFault)
+}

@@ -1,0 +1,73 @@
+-- The one form of program that runs today: a running sum.
+use Rattle.std.specs.Prelude.{◌≡◌, ℕ, ◌≤◌, nat_le, Bool, true, false, not, ◌&&◌, ◌||◌, ◌==◌, List, [], ◌∷◌, ◌++◌, length, take, drop, codes}
+use Rattle.std.specs.List.{list_all}
+use Rattle.dom_words.specs.Names.{has_name, is_same}
+
+-- `a` to `z`, `A` to `Z` or `_`
+abbrev pub is_letter : ℕ → Bool
+is_letter byte = (nat_le 97 byte && nat_le byte 122) || (nat_le 65 byte && nat_le byte 90) || byte == 95
+
+-- a letter or a digit
+abbrev pub is_word_byte : ℕ → Bool
+is_word_byte byte = is_letter byte || (nat_le 48 byte && nat_le byte 57)
+
+-- a letter followed by letters and digits
+abbrev pub is_word : List ℕ → Bool
+is_word [] = false
+is_word (byte ∷ rest) = is_letter byte && list_all is_word_byte rest
+
+-- the language's own words and the words that it forbids
+unfoldable pub reserved : List (List ℕ)
+reserved =
+    codes "struct" ∷ codes "int" ∷ codes "void" ∷ codes "if" ∷ codes "else" ∷ codes "define" ∷ codes "while" ∷ codes "for" ∷ codes "do"
+    ∷ codes "switch" ∷ codes "case" ∷ codes "default" ∷ codes "goto" ∷ codes "break" ∷ codes "continue" ∷ codes "return"
+    ∷ codes "sizeof" ∷ codes "char" ∷ codes "short" ∷ codes "long" ∷ codes "unsigned" ∷ codes "signed" ∷ codes "float" ∷ codes "double"
+    ∷ codes "enum" ∷ codes "union" ∷ codes "typedef" ∷ codes "static" ∷ codes "const" ∷ codes "volatile" ∷ codes "include" ∷ []
+
+-- a name is any other word
+abbrev pub is_name : List ℕ → Bool
+is_name text = is_word text && not (has_name reserved text)
+
+-- a digit from 1 to 4 and an optional letter from `a` to `h`
+abbrev pub is_unit : List ℕ → Bool
+is_unit [] = false
+is_unit (digit ∷ []) = nat_le 49 digit && nat_le digit 52
+is_unit (digit ∷ letter ∷ []) = nat_le 49 digit && nat_le digit 52 && nat_le 97 letter && nat_le letter 104
+is_unit (digit ∷ letter ∷ byte ∷ rest) = false
+
+-- the name of a hash function: `hash` and a unit
+abbrev pub is_hash_name : List ℕ → Bool
+is_hash_name text = is_same (take 4 text) (codes "hash") && is_unit (drop 4 text)
+
+-- the names of a program of this form: the field that is added, the field that takes the sum, the state word
+pub record Names : Type 0 where
+  pub added : List ℕ
+  pub sum : List ℕ
+  pub state : List ℕ
+
+-- three names; the fields differ; the state word is neither the parameter's name nor a hash function's
+abbrev pub are_lawful : Names → Bool
+are_lawful n =
+    is_name n.added && is_name n.sum && is_name n.state && not (is_same n.added n.sum) && not (is_same n.state (codes "pkt"))
+    && not (is_hash_name n.state)
+
+-- the pieces of the program's text, in order
+abbrev pub pieces : Names → List (List ℕ)
+pieces n =
+    codes "struct Packet { int " ∷ n.added ∷ codes "; int " ∷ n.sum ∷ codes "; };\nint " ∷ n.state
+    ∷ codes ";\nvoid acc(struct Packet pkt) { " ∷ n.state ∷ codes " = " ∷ n.state ∷ codes " + pkt." ∷ n.added
+    ∷ codes "; pkt." ∷ n.sum ∷ codes " = " ∷ n.state ∷ codes "; }\n" ∷ []
+
+abbrev pub joined : List (List ℕ) → List ℕ
+joined [] = []
+joined (piece ∷ rest) = piece ++ joined rest
+
+-- a program of this form: at most 65,536 bytes that are exactly these pieces
+pub record IsFirstForm (text : List ℕ) (n : Names) : Type 0 where
+  pub small : length text ≤ 65536
+  pub lawful : are_lawful n ≡ true
+  pub text_is : text ≡ joined (pieces n)
+
+-- no names make the text a program of this form
+abbrev pub IsNotFirstForm : List ℕ → Type 0
+IsNotFirstForm text = (n : Names) → IsFirstForm text n → ⊥

@@ -1,0 +1,10 @@
+pub mod Accumulator
+pub mod Clocking
+pub mod Command
+pub mod CommandNames
+pub mod FirstForm
+pub mod FormNames
+pub mod Prepared
+pub mod Report
+pub mod Result
+pub mod Runs

@@ -1,0 +1,13 @@
+//! The top call: the words of the command line, the files that they name, and the bytes that answer them.
+#![tactic(auto)]
+
+mod call;
+mod clocking;
+mod command;
+mod first_form;
+pub mod laws;
+mod machine;
+mod prepare;
+mod report;
+
+pub use call::domino;

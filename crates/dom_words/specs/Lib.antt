@@ -1,0 +1,4 @@
+pub mod Fnv
+pub mod Names
+pub mod Number
+pub mod Packet

@@ -1,0 +1,20 @@
+//! Words of 32 bits, their texts, hash units, names, packets and lists: what every other crate speaks of.
+#![tactic(auto)]
+
+mod array;
+mod hash;
+mod name;
+mod names;
+mod number;
+mod packet;
+mod seq;
+#[cfg(test)]
+mod tests;
+
+pub use array::{Array, ArrayList, FileList};
+pub use hash::{FnvUnits, HashName, HashUnits};
+pub use name::Name;
+pub use names::Names;
+pub use number::{read_count, read_word, signed};
+pub use packet::Packet;
+pub use seq::{Memory, Seq};

@@ -1,0 +1,4 @@
+pub mod Clocked
+pub mod Drained
+pub mod History
+pub mod InFlight

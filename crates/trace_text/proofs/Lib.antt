@@ -1,0 +1,5 @@
+pub mod Once
+pub mod Reading
+pub mod Records
+pub mod Storing
+pub mod Whole

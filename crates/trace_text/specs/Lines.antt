@@ -1,0 +1,64 @@
+-- The lines of a report, as bytes.
+use Rattle.std.specs.Prelude.{ℕ, ◌+◌, ◌*◌, ◌≤◌, All, List, [], ◌∷◌, ◌++◌, Option, codes, decimal, length, map, slice_index_or}
+use Rattle.std.specs.Fmt.{signed_decimal}
+use Rattle.std.specs.List.{flat_map}
+use Rattle.std.specs.Option.{option_to_list}
+use Rattle.dom_words.specs.Number.{signed_of}
+
+-- parts, each after a comma (the byte 44)
+abbrev pub after_commas : List (List ℕ) → List ℕ
+after_commas parts = flat_map (λ part. 44 ∷ part) parts
+
+-- parts with a comma between each two
+abbrev pub comma_joined : List (List ℕ) → List ℕ
+comma_joined [] = []
+comma_joined (part ∷ parts) = part ++ after_commas parts
+
+-- a line: its parts with commas between them, and the line feed (the byte 10)
+abbrev pub line_of : List (List ℕ) → List ℕ
+line_of parts = comma_joined parts ++ 10 ∷ []
+
+-- a word, in signed decimals
+abbrev pub word_text : ℕ → List ℕ
+word_text word = signed_decimal (signed_of word)
+
+-- a count, in decimals
+abbrev pub count_text : ℕ → List ℕ
+count_text count = decimal count
+
+-- name `k`, from 0
+abbrev pub name_at : List (List ℕ) → ℕ → List ℕ
+name_at names k = slice_index_or names k []
+
+-- the heading: `cycle` or `packet`, and then each field's name
+abbrev pub head_line : List ℕ → List (List ℕ) → List ℕ
+head_line word fields = line_of (word ∷ fields)
+
+-- a packet: the cycle in which it left, or its number, and then its words
+abbrev pub packet_line : ℕ → List ℕ → List ℕ
+packet_line lead words = line_of (count_text lead ∷ map word_text words)
+
+-- a state word: its array's name, its index and the word
+abbrev pub state_line : List ℕ → ℕ → ℕ → List ℕ
+state_line name index word = line_of (codes "state" ∷ name ∷ count_text index ∷ word_text word ∷ [])
+
+-- the stage in which an array stands
+abbrev pub place_line : List ℕ → ℕ → List ℕ
+place_line name stage = line_of (codes "place" ∷ name ∷ count_text stage ∷ [])
+
+-- the end: how many packets, and in how many cycles where cycles are counted
+abbrev pub done_line : ℕ → Option ℕ → List ℕ
+done_line packets cycles = line_of (codes "done" ∷ count_text packets ∷ map count_text (option_to_list cycles))
+
+-- what lines are made of: the names of the fields and of the arrays, and the largest number of words of a line
+pub record Legend : Type 0 where
+  pub fields : List (List ℕ)
+  pub arrays : List (List ℕ)
+  pub words : ℕ
+
+-- each line of a legend has at most `room` bytes
+pub record HasRoom (legend : Legend) (room : ℕ) : Type 0 where
+  pub numbers : 64 ≤ room
+  pub heading : length (after_commas legend.fields) + 64 ≤ room
+  pub names : All (λ name. length name + 64 ≤ room) legend.arrays
+  pub words : 12 * legend.words + 64 ≤ room
