@@ -1,7 +1,7 @@
 use crate::{DiskShelf, MemShelf, MemSink, OutSink, Shelf, ShelfFault, Sink, SinkFault};
 use dom_words::{Name, Seq};
-use std::{fs, process};
 use std::test::Fail;
+use std::{fs, process};
 
 #[test]
 fn memory_ends(rt: HostRuntime) -> Result<(), Fail> {

@@ -1,5 +1,5 @@
 -- In a program of the first form the names stand where they are looked for.
-use Rattle.std.proofs.Common.{◌≡◌, ℕ, ◌+◌, ◌≤◌, Bool, true, false, not, ◌&&◌, List, [], ◌∷◌, ◌++◌, length, drop, refl, sym, ap, ◌∙◌, arith, append_assoc, length-append, codes, IsTrue, ◌↔◌}
+use Rattle.std.proofs.Common.{◌≡◌, ℕ, ◌+◌, Bool, true, false, not, ◌&&◌, List, [], ◌∷◌, ◌++◌, length, drop, refl, sym, ap, ◌∙◌, arith, append_assoc, length-append, codes, IsTrue, ◌↔◌}
 use Rattle.std.proofs.Math.Seq.{drop-append-add, drop-append_seam}
 use Rattle.std.proofs.lemmas.Bool.{and_parts}
 use Rattle.std.specs.List.{list_all}
@@ -62,7 +62,7 @@ module _ (text p a : List ℕ) (x : ℕ) (q b : List ℕ) (y : ℕ) (r c : List 
       → word_run (drop (length a + length b + (length p + length (x ∷ q) + length (y ∷ r))) text) ≡ c
   third_word e all other =
       ap word_run (behind text ((p ++ a) ++ ((x ∷ q) ++ b)) (y ∷ r) third (length a + length b + (length p + length (x ∷ q) + length (y ∷ r))) (e ∙ third_front)
-          (omega (arith, length-append (p ++ a) ((x ∷ q) ++ b), length-append p a, length-append (x ∷ q) b)))
+      (omega (arith, length-append (p ++ a) ((x ∷ q) ++ b), length-append p a, length-append (x ∷ q) b)))
       ∙ run_of c z tail all other
 
 -- the three names of a lawful program are names

@@ -1,6 +1,6 @@
 -- The entries of a trace, packet by packet.
-use Rattle.std.proofs.Common.{◌≡◌, ℕ, zero, suc, ◌+◌, ◌<◌, ◌≤◌, List, [], ◌∷◌, ◌++◌, length, map, take, drop, get_or, replicate, refl, sym, ap, ◌∙◌, append_assoc, append-nil, length-append, drop-cons, add-one, sum_by, flat_map, Option, Some, None, arith}
-use Rattle.std.proofs.lemmas.List.{length-replicate, length-map, take-append-drop, take_more}
+use Rattle.std.proofs.Common.{◌≡◌, ℕ, zero, suc, ◌+◌, ◌<◌, ◌≤◌, List, [], ◌∷◌, ◌++◌, length, map, take, drop, get_or, refl, sym, ap, ◌∙◌, append_assoc, append-nil, length-append, drop-cons, sum_by, Option, Some, None, arith}
+use Rattle.std.proofs.lemmas.List.{length-replicate, take-append-drop, take_more}
 use Rattle.std.proofs.Math.Seq.{take-length}
 use Rattle.std.proofs.lemmas.List.Sums.{sum_by-append}
 use Rattle.pipeline_law.specs.Pipeline.{Row}
@@ -59,7 +59,7 @@ cycle_fits ps k cycle d inside at_k =
       length-append (entries_of_one (get_or ps k d)) (entries (drop (suc k) ps)),
       length-entries_of_one (get_or ps k d),
       length-entries ps,
-      at_k
+      at_k,
     )
 
 -- one packet more
@@ -79,7 +79,7 @@ packet_stop row0 row1 h0 h1 h2 cycle ps k gap words d inside at_k gap_is words_a
     let own : IsPart h1 h2 (lines_from row1 cycle (entries_of_one (get_or ps k d))) = rw (← gap_is, ← words_are) part in
     part_in_front row0 h0 h2 0 (entries ps) drain
     (rw (entries_around ps k d inside)
-      (ran_part row0 row1 h0 h1 h2 0 cycle (entries (take k ps)) (entries_of_one (get_or ps k d)) (entries (drop (suc k) ps)) (omega (arith, at_k)) first own))
+    (ran_part row0 row1 h0 h1 h2 0 cycle (entries (take k ps)) (entries_of_one (get_or ps k d)) (entries (drop (suc k) ps)) (omega (arith, at_k)) first own))
 
 -- all packets, and the drain
 pub trace_drained : (row0 row1 row2 : Row ℕ Item) (h0 h1 h2 : Option (List ℕ)) (cycle : ℕ) (ps : List (ℕ × List ℕ)) (k : ℕ)

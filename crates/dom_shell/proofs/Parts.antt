@@ -1,5 +1,5 @@
 -- One part of a run after another.
-use Rattle.std.proofs.Common.{◌≡◌, ℕ, zero, suc, ◌+◌, ◌<◌, ◌≤◌, List, [], ◌∷◌, ◌++◌, length, map, take, drop, refl, sym, ap, ◌∙◌, subst, append_assoc, append-nil, length-append, Option, Some, None, Result, Ok, Err, OnOk, OnErr, replicate, arith, ◌-◌}
+use Rattle.std.proofs.Common.{◌≡◌, ℕ, suc, ◌+◌, ◌<◌, List, [], ◌∷◌, ◌++◌, length, map, take, refl, sym, ap, ◌∙◌, append_assoc, append-nil, length-append, Option, Some, None, Result, Ok, Err, OnOk, OnErr, replicate, arith, ◌-◌}
 use Rattle.std.proofs.Math.Seq.{take-append-add, take-length}
 use Rattle.std.proofs.lemmas.List.{take-append-le, map-append, length-map, length-replicate, replicate-append-replicate}
 use Rattle.pipeline_law.specs.Pipeline.{Row, piped, left, cycled, leaving}

@@ -1,5 +1,5 @@
 -- A report, put line by line.
-use Rattle.std.proofs.Common.{◌≡◌, ℕ, suc, List, [], ◌∷◌, ◌++◌, length, map, refl, sym, ap, ◌∙◌, subst, Option, Some, None, Result, Ok, Err, codes}
+use Rattle.std.proofs.Common.{◌≡◌, ℕ, suc, List, [], ◌∷◌, ◌++◌, length, refl, sym, ap, ◌∙◌, subst, Option, Result, Ok, Err, codes}
 use Rattle.std.proofs.lemmas.List.{length-map}
 use Rattle.pipeline_law.specs.Pipeline.{Row}
 use Rattle.dom_io.specs.Held.{Puts, appended}

@@ -1,15 +1,15 @@
 -- Which result stands, from what has been found.
-use Rattle.std.proofs.Common.{◌≡◌, ℕ, ◌<◌, ◌≤◌, ◌⊎◌, inl, inr, List, [], ◌∷◌, ◌++◌, map, length, refl, sym, ap, ◌∙◌, subst, Option, Some, None, IfSome, IsSome, Result, Ok, Err, arith}
+use Rattle.std.proofs.Common.{◌≡◌, ℕ, ◌≤◌, ◌⊎◌, inl, inr, List, length, refl, sym, ap, ◌∙◌, subst, Option, Some, None, IfSome, IsSome, Ok, Err, arith}
 use Rattle.dom_io.specs.Causes.{Rose}
 use Rattle.dom_io.specs.Held.{appended}
 use Rattle.trace_text.specs.Lines.{Legend}
-use Rattle.trace_text.specs.Trace.{IsTraceOf, Refusal, entries}
+use Rattle.trace_text.specs.Trace.{IsTraceOf, entries}
 use Rattle.trace_text.proofs.Once.{one_trace}
-use Rattle.dom_shell.specs.Accumulator.{drain, emitted, packets_of, serial_packets, serial_state, state_after}
+use Rattle.dom_shell.specs.Accumulator.{serial_packets, serial_state}
 use Rattle.dom_shell.specs.Clocking.{IsPart}
 use Rattle.dom_shell.specs.Command.{RunNames, files_named}
 use Rattle.dom_shell.specs.FirstForm.{IsFirstForm, IsNotFirstForm, Names}
-use Rattle.dom_shell.specs.Prepared.{IsBadTrace, IsReady, IsSetUp}
+use Rattle.dom_shell.specs.Prepared.{IsBadTrace, IsReady}
 use Rattle.dom_shell.specs.Report.{report}
 use Rattle.dom_shell.specs.Result.{Answers, AreTold, IsRefusedTrace, IsResult, by_program, by_run, by_trace, by_words, fields_of, not_built_line, trace_line, words_line}
 use Rattle.dom_shell.proofs.Found.{found}

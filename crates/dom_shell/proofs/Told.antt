@@ -1,5 +1,5 @@
 -- What was read is what the shelf tells.
-use Rattle.std.proofs.Common.{◌≡◌, ℕ, ◌+◌, ◌<◌, ◌≤◌, ◌⊎◌, inl, inr, Bool, true, false, not, ◌&&◌, List, [], ◌∷◌, length, take, refl, sym, ap, ◌∙◌, subst, Option, Some, None, IfSome, IfOk, IfErr, Result, Ok, Err, arith, codes}
+use Rattle.std.proofs.Common.{◌≡◌, ℕ, ◌<◌, ◌≤◌, ◌⊎◌, inl, inr, Bool, true, false, not, ◌&&◌, List, length, take, refl, sym, ap, ◌∙◌, subst, Option, Some, None, IfSome, IfOk, IfErr, Result, Ok, Err, arith, codes}
 use Rattle.std.proofs.lemmas.List.{length-take, take_all}
 use Rattle.std.proofs.lemmas.Bool.{and_parts, cases_lt}
 use Rattle.dom_io.specs.Causes.{Rose}
@@ -8,7 +8,7 @@ use Rattle.trace_text.specs.Lines.{Legend}
 use Rattle.trace_text.specs.Trace.{IsTraceOf, Refusal}
 use Rattle.dom_shell.specs.Command.{RunNames}
 use Rattle.dom_shell.specs.FirstForm.{IsFirstForm, IsNotFirstForm, Names, is_hash_name, is_name}
-use Rattle.dom_shell.specs.Prepared.{IsBadTrace, IsGoodProgram, IsReady, IsSetUp, ReadStop, SetUpStop, StopCause, stop_for}
+use Rattle.dom_shell.specs.Prepared.{IsGoodProgram, IsReady, IsSetUp, ReadStop, SetUpStop, StopCause, stop_for}
 use Rattle.dom_shell.specs.Result.{IsRefusedTrace, fields_of}
 use Rattle.dom_shell.specs.declared.prepare.Stop.{Stop}
 use Rattle.dom_shell.specs.declared.prepare.Stop.TheVariants.{NotBuilt, Trace, Unread, Memory}
@@ -81,6 +81,7 @@ refused_whole (Some bytes) text fields is refused = by_length (cases_lt 16777216
   where
     long : 16777216 < length text → IsRefusedTrace bytes fields
     long h = let size = ap length is ∙ length-take 16777217 bytes in inl (omega (arith, size, h))
+
     by_length : (16777216 < length text) ⊎ (length text ≤ 16777216) → IsRefusedTrace text fields → IsRefusedTrace bytes fields
     by_length (inl h) r = long h
     by_length (inr h) (inl r) = long r

@@ -1,5 +1,5 @@
 -- A part of a run: some entries, from some row and some cycle on, and the bytes that a sink got meanwhile.
-use Rattle.std.specs.Prelude.{◌≡◌, ℕ, ◌+◌, ◌≤◌, Option, List, ◌++◌, length, map, take}
+use Rattle.std.specs.Prelude.{◌≡◌, ℕ, ◌≤◌, Option, List, length, map, take}
 use Rattle.pipeline_law.specs.Pipeline.{Row, piped, left}
 use Rattle.dom_io.specs.Held.{appended}
 use Rattle.dom_shell.specs.Accumulator.{Entry, Item, clock, entered, run, stages, through_outputs}

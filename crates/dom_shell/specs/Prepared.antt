@@ -1,5 +1,5 @@
 -- What has been read before anything is put, and why it was not.
-use Rattle.std.specs.Prelude.{◌≡◌, ℕ, ◌+◌, ◌≤◌, ◌⊎◌, Option, Some, None, IfSome, List, [], ◌∷◌, length, All, take, Ok, Result, MatchResult, IfOk}
+use Rattle.std.specs.Prelude.{◌≡◌, ℕ, ◌+◌, ◌≤◌, ◌⊎◌, Option, Some, None, IfSome, List, [], ◌∷◌, length, All, Ok}
 use Rattle.dom_io.specs.Causes.{Rose}
 use Rattle.trace_text.specs.Lines.{Legend}
 use Rattle.trace_text.specs.Trace.{IsTraceOf, Refusal, cycles_of, most_cycles}

@@ -1,8 +1,7 @@
 -- The report of a run: a heading, the packets in order, the state word unless it is 0, the place of the state word, and the end.
-use Rattle.std.specs.Prelude.{◌≡◌, ℕ, ◌+◌, ◌==◌, Option, None, Some, List, [], ◌∷◌, ◌++◌, length, map, codes, if◌then◌else◌}
-use Rattle.pipeline_law.specs.Pipeline.{Row, piped, left}
+use Rattle.std.specs.Prelude.{ℕ, ◌+◌, ◌==◌, None, Some, List, [], ◌∷◌, ◌++◌, length, codes, if◌then◌else◌}
 use Rattle.trace_text.specs.Lines.{done_line, head_line, packet_line, place_line, state_line}
-use Rattle.dom_shell.specs.Accumulator.{Entry, Item, clock, drain, emitted, entered, packets_of, run, stages, state_after, through_outputs}
+use Rattle.dom_shell.specs.Accumulator.{Entry, drain, emitted, packets_of, state_after}
 use Rattle.dom_shell.specs.FirstForm.{Names}
 
 -- the line of what leaves in a cycle: none where no packet leaves

@@ -1,5 +1,5 @@
 -- Where the names of a program of the first form stand, if it is one.
-use Rattle.std.specs.Prelude.{◌≡◌, ℕ, ◌+◌, List, [], ◌∷◌, length, drop, if◌then◌else◌}
+use Rattle.std.specs.Prelude.{ℕ, ◌+◌, List, [], ◌∷◌, length, drop, if◌then◌else◌}
 use Rattle.dom_shell.specs.FirstForm.{Names, is_word_byte}
 
 -- the longest run of word bytes at the front

@@ -13,11 +13,17 @@ use dom_words::HashUnits;
 use std::alloc::Global;
 
 const DONE: u8 = 0;
+
 const PROGRAM_REFUSED: u8 = 1;
+
 const WORDS_REFUSED: u8 = 2;
+
 const TRACE_REFUSED: u8 = 3;
+
 const READ_FAULT: u8 = 4;
+
 const WRITE_FAULT: u8 = 5;
+
 const NO_MEMORY: u8 = 6;
 
 /// Does what the words say, which are those after the program's own name: reads the files that they name from the shelf,

@@ -20,8 +20,7 @@ pub fn run_files(words: &[String]) -> Option<RunFiles<'_>>
             if command.as_str() == "run"
                 && target.as_str() == "raw-small"
                 && !program.is_empty()
-                && !trace.is_empty() =>
-        {
+                && !trace.is_empty() => {
             Some(RunFiles {
                 program: program.as_str(),
                 trace: trace.as_str(),

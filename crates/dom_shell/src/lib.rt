@@ -9,5 +9,7 @@ pub mod laws;
 mod machine;
 mod prepare;
 mod report;
+#[cfg(test)]
+mod tests;
 
 pub use call::domino;

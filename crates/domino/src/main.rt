@@ -19,10 +19,18 @@ enum NoWords {
 // The words after the program's own name.
 fn words(rt: &HostRuntime) -> Result<Vec<String>, NoWords> {
     let mut words = Vec::new(rt.alloc());
-    for word in env::args(rt).map_err(|_| NoWords::Unreadable)?.skip(1) {
+    for word in env::args(rt).map_err(reason)?.skip(1) {
         words.push(word).map_err(|_| NoWords::Memory)?;
     }
     Ok(words)
+}
+
+fn reason(error: io::Error) -> NoWords {
+    if error.kind() == io::ErrorKind::OutOfMemory {
+        NoWords::Memory
+    } else {
+        NoWords::Unreadable
+    }
 }
 
 fn main(rt: HostRuntime) -> ExitCode {

@@ -36,7 +36,7 @@ pub returns-in-Err-NotBuilt-clause-exact : goal.returns-in-Err-NotBuilt-clause-e
 returns-in-Err-NotBuilt-clause-exact g c status bytes is =
     answers_line status c.put_refusal-in-Err-NotBuilt.result 1 bytes not_built_line _ _ _ _
     (only_program (texts_of c.args.words.now) (g.F.Shelf.content c.args.shelf.now) status bytes (names_of_run c.in-Some.files) (sym c.in-Some.ensures)
-      (rw c.in-Err-NotBuilt.field-0-is at c.in-Err-NotBuilt.ensures.stop) is)
+    (rw c.in-Err-NotBuilt.field-0-is at c.in-Err-NotBuilt.ensures.stop) is)
     c.put_refusal-in-Err-NotBuilt.ensures.put
 
 pub returns-in-Err-NotBuilt-clause-told : goal.returns-in-Err-NotBuilt-clause-told
@@ -48,7 +48,7 @@ pub returns-in-Err-Trace-clause-exact : goal.returns-in-Err-Trace-clause-exact
 returns-in-Err-Trace-clause-exact g c status bytes is =
     answers_line status c.put_refusal-in-Err-Trace.result 3 bytes trace_line _ _ _ _
     (only_trace (texts_of c.args.words.now) (g.F.Shelf.content c.args.shelf.now) status bytes (names_of_run c.in-Some.files) (sym c.in-Some.ensures)
-      (rw c.in-Err-Trace.field-0-is at c.in-Err-Trace.ensures.stop) is)
+    (rw c.in-Err-Trace.field-0-is at c.in-Err-Trace.ensures.stop) is)
     c.put_refusal-in-Err-Trace.ensures.put
 
 pub returns-in-Err-Trace-clause-told : goal.returns-in-Err-Trace-clause-told

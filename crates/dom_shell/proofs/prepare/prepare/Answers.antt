@@ -1,8 +1,6 @@
-use Rattle.std.proofs.Common.{◌≡◌, List, ℕ, sym, subst}
-use Rattle.dom_shell.specs.FirstForm.{IsFirstForm}
 use Rattle.dom_shell.specs.FormNames.{names_of}
 use Rattle.dom_shell.specs.CommandNames.{names_of_run}
-use Rattle.dom_shell.proofs.Told.{IsRead, err_of, fields_differ, good_program, not_built, ok_of, set_up_ready, set_up_stop, trace_unread}
+use Rattle.dom_shell.proofs.Told.{err_of, fields_differ, good_program, not_built, ok_of, set_up_ready, set_up_stop, trace_unread}
 use Rattle.dom_shell.proofs.prepare.prepare.Goals as goal
 
 pub returns-in_default-clause-stop : goal.returns-in_default-clause-stop

@@ -1,4 +1,4 @@
-use Rattle.std.proofs.Common.{◌++◌, Some}
+use Rattle.std.proofs.Common.{Some}
 use Rattle.trace_text.specs.Lines.{done_line, name_at, place_line}
 use Rattle.dom_shell.specs.Report.{state_part}
 use Rattle.dom_shell.proofs.Parts.{part_after, part_before}

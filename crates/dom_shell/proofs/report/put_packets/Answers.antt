@@ -1,4 +1,4 @@
-use Rattle.std.proofs.Common.{◌≡◌, ◌+◌, ◌∙◌, ℕ, [], ap, refl, length, arith, rules}
+use Rattle.std.proofs.Common.{◌+◌, ◌∙◌, [], ap, arith, rules}
 use Rattle.dom_shell.proofs.Packets.{cycle_fits, cycle_more, cycles_all, cycles_small, drain_stop, packet_more, packet_stop, trace_drained}
 use Rattle.dom_shell.proofs.report.put_packets.Goals as goal
 

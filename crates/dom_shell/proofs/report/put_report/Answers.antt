@@ -1,4 +1,4 @@
-use Rattle.std.proofs.Common.{◌≡◌, ◌∙◌, List, ℕ, ap}
+use Rattle.std.proofs.Common.{◌∙◌, ap}
 use Rattle.trace_text.specs.Lines.{Legend}
 use Rattle.dom_shell.proofs.Reports.{heading_stop, report_put, report_stop}
 use Rattle.dom_shell.proofs.report.put_report.Goals as goal
