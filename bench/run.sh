@@ -63,4 +63,5 @@ for mib in 1 4 16; do
             }'
     done
 done
+rm -f ours.out theirs.out
 exit 0

@@ -10,6 +10,10 @@ abbrev pub file_of : List (List ℕ × List ℕ) → List ℕ → Option (List �
 file_of [] name = None
 file_of (file ∷ files) name = if pointwise nat_eq file.0 name then Some file.1 else file_of files name
 
+-- what a shelf tells that tells nothing
+abbrev pub untold : List ℕ → Option (List ℕ)
+untold name = None
+
 -- a read fails where its number is among the failing ones, or the name is not there
 abbrev pub read_fails : List (List ℕ × List ℕ) → List ℕ → ℕ → List ℕ → Bool
 read_fails files failing number name = is_none (file_of files name) || list_any (λ k. k == number) failing

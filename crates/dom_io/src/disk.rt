@@ -1,8 +1,11 @@
-ghost use Rattle.std.specs.Prelude.{◌≡◌, None};
+ghost use Rattle.std.specs.Prelude.{◌≡◌, ◌≤◌, List, ℕ, take, vec_len, if◌then◌else◌, IfOk, IfErr, IfSome};
+ghost use Rattle.dom_io.specs.Causes.{next_number};
+ghost use Rattle.dom_io.specs.Files.{is_failure, untold};
+ghost use Rattle.dom_io.specs.Reads.{ReadCause};
 
 use crate::shelf::{Shelf, ShelfFault};
 use std::alloc::Global;
-use std::fs::{self};
+use std::fs;
 use std::io::Read;
 use std::rt::Files;
 
@@ -31,11 +34,17 @@ impl<'a, R: Files> DiskShelf<'a, R> {
 }
 
 impl<'a, R: Files> Shelf for DiskShelf<'a, R> {
-    ghost content = { λ _ _. None };
+    ghost content = { λ _ name. untold name };
 
     ghost faults = { λ s _. s.faults };
 
-    fn read(&mut self, name: &str, most: usize) -> Result<Vec<u8>, ShelfFault> {
+    fn read(&mut self, name: &str, most: usize) -> Result<Vec<u8>, ShelfFault>
+        ensures bytes { IfOk result (λ v. IfSome (untold name.now) (λ bytes. v.items ≡ take most bytes)) }
+        ensures few { IfOk result (λ v. vec_len v ≤ most) }
+        ensures files { (n : List ℕ) → untold n ≡ untold n }
+        ensures cause { ReadCause (λ (_ : List ℕ). self.old.faults) (λ (_ : List ℕ). self.new.faults) name.now result }
+        ensures count { IfErr result (λ fault. self.new.faults ≡ (if is_failure fault then next_number self.old.faults else self.old.faults)) }
+    {
         let result = read_file(self.rt, self.alloc, name, most);
         if let Err(ShelfFault::Failed) = &result {
             self.faults = self.faults.saturating_add(1);
@@ -44,13 +53,15 @@ impl<'a, R: Files> Shelf for DiskShelf<'a, R> {
     }
 }
 
-// The first bytes of a file, read by and by until there are enough of them or no more come.
+// The first bytes of a file, read piece by piece until there are enough of them or no more come.
 fn read_file<R: Files>(
     rt: &R,
     alloc: Global,
     name: &str,
     most: usize,
-) -> Result<Vec<u8>, ShelfFault> {
+) -> Result<Vec<u8>, ShelfFault>
+    ensures { IfOk result (λ v. vec_len v ≤ most) }
+{
     let mut file = fs::open(rt, name).map_err(|_| ShelfFault::Failed)?;
     let mut bytes = Vec::new(alloc);
     let mut buffer = [0; BUFFER_BYTES];

@@ -1,4 +1,4 @@
-ghost use Rattle.std.specs.Prelude.{◌≡◌, ◌≤◌, ℕ, List, take, IfOk, IfErr, IfSome};
+ghost use Rattle.std.specs.Prelude.{◌≡◌, ◌≤◌, ℕ, List, take, vec_len, if◌then◌else◌, IfOk, IfErr, IfSome};
 ghost use Rattle.std.specs.Option.{option_copied};
 ghost use Rattle.dom_io.specs.Files.{ReadAnswer, file_of, read_fails};
 ghost use Rattle.dom_io.specs.Reads.{ReadCause};
@@ -44,10 +44,12 @@ impl Shelf for MemShelf {
 
     fn read(&mut self, name: &str, most: usize) -> Result<Vec<u8>, ShelfFault>
         ensures bytes { IfOk result (λ v. IfSome (file_of self.old.files name.now) (λ bytes. v.items ≡ take most bytes)) }
+        ensures few { IfOk result (λ v. vec_len v ≤ most) }
         ensures files { (n : List ℕ) → file_of self.new.files n ≡ file_of self.old.files n }
         ensures cause { ReadCause (λ (_ : List ℕ). self.old.faults) (λ (_ : List ℕ). self.new.faults) name.now result }
         ensures number { self.new.reads ≡ next_number self.old.reads }
         ensures failing { self.new.failing ≡ self.old.failing }
+        ensures count { self.new.faults ≡ (if read_fails self.old.files self.old.failing.items (next_number self.old.reads) name.now then next_number self.old.faults else self.old.faults) }
         ensures exact { ReadAnswer (read_fails self.old.files self.old.failing.items (next_number self.old.reads) name.now) result }
     {
         self.reads = self.reads.saturating_add(1);
@@ -64,6 +66,7 @@ impl Shelf for MemShelf {
 // The first bytes, as many as are wanted and there.
 fn first(alloc: Global, bytes: &[u8], most: usize) -> Result<Vec<u8>, ShelfFault>
     ensures ok { IfOk result (λ v. v.items ≡ take most bytes.now) }
+    ensures few { IfOk result (λ v. vec_len v ≤ most) }
     ensures err { IfErr result (λ e. e ≡ ShelfFault.Memory) }
 {
     let count = bytes.len().min(most);

@@ -1,4 +1,4 @@
-ghost use Rattle.std.specs.Prelude.{◌≡◌, ◌++◌, ◌-◌, ◌<◌, ◌≤◌, ℕ, List, [], Some, take, length, is_ok, vec_len, vec_capacity, IfOk};
+ghost use Rattle.std.specs.Prelude.{◌≡◌, ◌++◌, ◌-◌, ◌<◌, ◌≤◌, ℕ, List, [], Some, take, length, is_ok, vec_len, vec_capacity, if◌then◌else◌, IfOk};
 ghost use Rattle.dom_io.specs.Causes.{HasCause, next_number};
 ghost use Rattle.dom_io.specs.Held.{Puts, planned_bytes, puts_all, taken_bytes};
 
@@ -59,6 +59,7 @@ impl Sink for MemSink {
         ensures room { self.new.room ≡ self.old.room }
         ensures failing { self.new.failing ≡ self.old.failing }
         ensures taken { let plan = planned_bytes self.old.failing.items (next_number self.old.puts) in let left = self.old.room - length self.old.held.items in self.new.held.items ≡ self.old.held.items ++ take (taken_bytes plan left (length bytes.now)) bytes.now }
+        ensures count { let plan = planned_bytes self.old.failing.items (next_number self.old.puts) in let left = self.old.room - length self.old.held.items in self.new.faults ≡ (if puts_all plan left (length bytes.now) then self.old.faults else next_number self.old.faults) }
         ensures exact { let plan = planned_bytes self.old.failing.items (next_number self.old.puts) in let left = self.old.room - length self.old.held.items in is_ok result ≡ puts_all plan left (length bytes.now) }
     {
         self.puts = self.puts.saturating_add(1);

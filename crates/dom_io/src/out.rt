@@ -1,4 +1,6 @@
-ghost use Rattle.std.specs.Prelude.{◌≡◌, ℕ, None};
+ghost use Rattle.std.specs.Prelude.{◌≡◌, None, is_ok, if◌then◌else◌};
+ghost use Rattle.dom_io.specs.Causes.{HasCause, next_number};
+ghost use Rattle.dom_io.specs.Held.{Puts};
 
 use crate::sink::{Sink, SinkFault};
 use std::io::Write;
@@ -25,7 +27,11 @@ impl<W: Write> Sink for OutSink<W> {
 
     ghost faults = { λ s. s.faults };
 
-    fn put(&mut self, bytes: &[u8]) -> Result<(), SinkFault> {
+    fn put(&mut self, bytes: &[u8]) -> Result<(), SinkFault>
+        ensures bytes { Puts None None bytes.now result }
+        ensures cause { HasCause self.old.faults self.new.faults result }
+        ensures count { self.new.faults ≡ (if is_ok result then self.old.faults else next_number self.old.faults) }
+    {
         let result = write_and_flush(&mut self.out, bytes);
         if result.is_err() {
             self.faults = self.faults.saturating_add(1);

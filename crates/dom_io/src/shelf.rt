@@ -1,6 +1,5 @@
-ghost use Rattle.std.specs.Prelude.{◌≡◌, ◌≤◌, List, ℕ, take, IfOk, IfSome};
+ghost use Rattle.std.specs.Prelude.{◌≡◌, ◌≤◌, List, ℕ, take, vec_len, IfOk, IfSome};
 ghost use Rattle.std.specs.declared.option.Option.{Option};
-ghost use Rattle.dom_io.specs.Causes.{Rose};
 ghost use Rattle.dom_io.specs.Reads.{ReadCause};
 
 /// Why a file was not read: a fault of the shelf, which its count tells, or want of memory.
@@ -22,6 +21,7 @@ pub trait Shelf {
     /// name rose in this call; every other answer leaves all counts as they were.
     fn read(&mut self, name: &str, most: usize) -> Result<Vec<u8>, ShelfFault>
         ensures bytes { IfOk result (λ v. IfSome (content self.old name.now) (λ bytes. v.items ≡ take most bytes)) }
+        ensures few { IfOk result (λ v. vec_len v ≤ most) }
         ensures files { (n : List ℕ) → content self.new n ≡ content self.old n }
         ensures cause { ReadCause (faults self.old) (faults self.new) name.now result };
 }

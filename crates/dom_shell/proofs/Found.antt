@@ -3,7 +3,7 @@ use Rattle.std.proofs.Common.{◌≡◌, ℕ, ◌+◌, Bool, true, false, not, �
 use Rattle.std.proofs.Math.Seq.{drop-append-add, drop-append_seam}
 use Rattle.std.proofs.lemmas.Bool.{and_parts}
 use Rattle.std.specs.List.{list_all}
-use Rattle.dom_shell.specs.FirstForm.{IsFirstForm, IsNotFirstForm, Names, are_lawful, is_hash_name, is_letter, is_name, is_word, is_word_byte, joined, pieces, reserved}
+use Rattle.dom_shell.specs.FirstForm.{IsFirstForm, IsNotFirstForm, FormNames, are_lawful, is_hash_name, is_letter, is_name, is_word, is_word_byte, joined, pieces, reserved}
 use Rattle.dom_words.specs.Names.{has_name, is_same}
 use Rattle.dom_shell.specs.Runs.{candidates, word_run}
 
@@ -75,7 +75,7 @@ names_lawful a b c d e f all =
     let one = and_parts a b two.0 in (one.0, one.1, two.1)
 
 -- a program's names are its candidates
-pub found : (text : List ℕ) (n : Names) → IsFirstForm text n → candidates text ≡ n
+pub found : (text : List ℕ) (n : FormNames) → IsFirstForm text n → candidates text ≡ n
 found text n is =
     let names = names_lawful (is_name n.added) (is_name n.sum) (is_name n.state) (not (is_same n.added n.sum)) (not (is_same n.state (codes "pkt"))) (not (is_hash_name n.state)) is.lawful in
     let p : List ℕ = codes "struct Packet { int " in
@@ -89,12 +89,12 @@ found text n is =
     rw added (rw sum (rw state refl))
 
 -- a text whose candidates are not lawful, or do not spell it, is no program of the form
-pub unlawful : (text : List ℕ) (n : Names) (b : Bool) → n ≡ candidates text → b ≡ are_lawful n → b ≡ false → IsNotFirstForm text
+pub unlawful : (text : List ℕ) (n : FormNames) (b : Bool) → n ≡ candidates text → b ≡ are_lawful n → b ≡ false → IsNotFirstForm text
 unlawful text n b e answer no_law m is = let f = found text m is in let law = is.lawful in let g = ap are_lawful (e ∙ f) in cc
 
 not_true : (b : Bool) → b ≡ false → IsTrue b → ⊥
 not_true b e t = cc
 
-pub unspelled : (text : List ℕ) (n : Names) (b : Bool) → n ≡ candidates text → (IsTrue b ↔ (text ≡ joined (pieces n))) → b ≡ false → IsNotFirstForm text
+pub unspelled : (text : List ℕ) (n : FormNames) (b : Bool) → n ≡ candidates text → (IsTrue b ↔ (text ≡ joined (pieces n))) → b ≡ false → IsNotFirstForm text
 unspelled text n b e answer no_text m is =
     not_true b no_text (answer.1 (is.text_is ∙ ap (λ m. joined (pieces m)) (sym (e ∙ found text m is))))

@@ -8,7 +8,7 @@ use Rattle.trace_text.specs.Lines.{head_line, name_at}
 use Rattle.trace_text.specs.Trace.{entries}
 use Rattle.dom_shell.specs.Accumulator.{Item, beginning, drain, emitted, one, packets_from, packets_of, state_after}
 use Rattle.dom_shell.specs.Clocking.{IsPart, Ran, lines_from, row_from}
-use Rattle.dom_shell.specs.FirstForm.{Names}
+use Rattle.dom_shell.specs.FirstForm.{FormNames}
 use Rattle.dom_shell.specs.Report.{report, report_end}
 use Rattle.dom_shell.proofs.Packets.{packets_of-entries}
 use Rattle.dom_shell.proofs.Parts.{part_after, part_before, put_then}
@@ -32,11 +32,11 @@ packets_that_leave ps =
 abbrev pub heading : List (List ℕ) → List ℕ
 heading fields = head_line (codes "cycle") fields
 
-abbrev pub names : Names → List (List ℕ)
+abbrev pub names : FormNames → List (List ℕ)
 names n = n.added ∷ n.sum ∷ []
 
 -- the heading, the packets and the end are the report
-pub report_put : (n : Names) (ps : List (ℕ × List ℕ)) (row0 row : Row ℕ Item) (h0 h1 h2 h3 : Option (List ℕ)) (result : Result (Unit {0}) SinkFault)
+pub report_put : (n : FormNames) (ps : List (ℕ × List ℕ)) (row0 row : Row ℕ Item) (h0 h1 h2 h3 : Option (List ℕ)) (result : Result (Unit {0}) SinkFault)
     (fields arrays : List (List ℕ)) (total packets cycles : ℕ)
     → fields ≡ names n → arrays ≡ n.state ∷ [] → row0 ≡ beginning → total ≡ row.state → packets ≡ length ps → cycles ≡ length (entries ps ++ drain)
     → h1 ≡ appended h0 (heading fields) → Ran row0 row h1 h2 0 (entries ps ++ drain) → Puts h2 h3 (report_end (name_at arrays 0) total packets cycles) result
@@ -55,7 +55,7 @@ report_put n ps row0 row h0 h1 h2 h3 result fields arrays total packets cycles f
     (puts_after result h1 h2 h3 lines last put (subst (λ (l : List ℕ). Puts h2 h3 l result) same end))
 
 -- a stop in the heading
-pub heading_stop : (n : Names) (ps : List (ℕ × List ℕ)) (h0 h1 : Option (List ℕ)) (fields : List (List ℕ))
+pub heading_stop : (n : FormNames) (ps : List (ℕ × List ℕ)) (h0 h1 : Option (List ℕ)) (fields : List (List ℕ))
     → fields ≡ names n → IsPart h0 h1 (heading fields) → IsPart h0 h1 (report n (entries ps))
 heading_stop n ps h0 h1 fields fields_are part =
     let all = entries ps ++ drain in
@@ -63,7 +63,7 @@ heading_stop n ps h0 h1 fields fields_are part =
     (subst (λ (f : List (List ℕ)). IsPart h0 h1 (heading f)) fields_are part)
 
 -- a stop among the packets
-pub report_stop : (n : Names) (ps : List (ℕ × List ℕ)) (row0 : Row ℕ Item) (h0 h1 h2 : Option (List ℕ)) (fields : List (List ℕ))
+pub report_stop : (n : FormNames) (ps : List (ℕ × List ℕ)) (row0 : Row ℕ Item) (h0 h1 h2 : Option (List ℕ)) (fields : List (List ℕ))
     → fields ≡ names n → row0 ≡ beginning → h1 ≡ appended h0 (heading fields) → IsPart h1 h2 (lines_from row0 0 (entries ps ++ drain))
     → IsPart h0 h2 (report n (entries ps))
 report_stop n ps row0 h0 h1 h2 fields fields_are start head part =

@@ -7,7 +7,7 @@ use Rattle.dom_words.specs.Names.{is_same}
 use Rattle.trace_text.specs.Lines.{Legend}
 use Rattle.trace_text.specs.Trace.{IsTraceOf, Refusal}
 use Rattle.dom_shell.specs.Command.{RunNames}
-use Rattle.dom_shell.specs.FirstForm.{IsFirstForm, IsNotFirstForm, Names, is_hash_name, is_name}
+use Rattle.dom_shell.specs.FirstForm.{IsFirstForm, IsNotFirstForm, FormNames, is_hash_name, is_name}
 use Rattle.dom_shell.specs.Prepared.{IsGoodProgram, IsReady, IsSetUp, ReadStop, SetUpStop, StopCause, stop_for}
 use Rattle.dom_shell.specs.Result.{IsRefusedTrace, fields_of}
 use Rattle.dom_shell.specs.declared.prepare.Stop.{Stop}
@@ -37,14 +37,14 @@ not_built (Some bytes) read is other =
     let few : length bytes ≤ 65537 = omega (arith, small) in
     other n (subst (λ (b : List ℕ). IsFirstForm b n) (sym (is ∙ take_all 65537 bytes few)) form)
 
-pub built : (told : Option (List ℕ)) (read : List ℕ) (n : Names) → IsRead told 65537 read → IsFirstForm read n → IfSome told (λ bytes. bytes ≡ read)
+pub built : (told : Option (List ℕ)) (read : List ℕ) (n : FormNames) → IsRead told 65537 read → IsFirstForm read n → IfSome told (λ bytes. bytes ≡ read)
 built told read n is form = let small = form.small in read_whole told read 65537 is (omega arith)
 
-good : (told : Option (List ℕ)) (read : List ℕ) (n : Names) → IfSome told (λ bytes. bytes ≡ read) → IsFirstForm read n → IsGoodProgram told
+good : (told : Option (List ℕ)) (read : List ℕ) (n : FormNames) → IfSome told (λ bytes. bytes ≡ read) → IsFirstForm read n → IsGoodProgram told
 good None read n is form = tt
 good (Some bytes) read n is form = (n, subst (λ (b : List ℕ). IsFirstForm b n) (sym is) form)
 
-pub good_program : (told : Option (List ℕ)) (read : List ℕ) (n : Names) → IsRead told 65537 read → IsFirstForm read n → IsGoodProgram told
+pub good_program : (told : Option (List ℕ)) (read : List ℕ) (n : FormNames) → IsRead told 65537 read → IsFirstForm read n → IsGoodProgram told
 good_program told read n is form = good told read n (built told read n is form) form
 
 -- the fields of a lawful program differ
@@ -55,7 +55,7 @@ differ a b c true e f all =
     let four = and_parts (a && b && c && false) e five.0 in
     let three = and_parts (a && b && c) false four.0 in let never = three.1 in cc
 
-pub fields_differ : (text : List ℕ) (n : Names) → IsFirstForm text n → is_same n.added n.sum ≡ false
+pub fields_differ : (text : List ℕ) (n : FormNames) → IsFirstForm text n → is_same n.added n.sum ≡ false
 fields_differ text n form =
     differ (is_name n.added) (is_name n.sum) (is_name n.state) (is_same n.added n.sum) (not (is_same n.state (codes "pkt"))) (not (is_hash_name n.state)) form.lawful
 
@@ -68,7 +68,7 @@ refused_stop fields text (Some r) stop e h = subst (λ (s : Stop). SetUpStop fie
 -- a fault on the trace
 pub trace_unread : (names : RunNames) (content : List ℕ → Option (List ℕ)) (before mid now : List ℕ → ℕ) (stop : Stop)
     → ((name : List ℕ) → mid name ≡ before name) → ReadStop mid now names.trace stop → IsGoodProgram (content names.program) → StopCause names content before now stop
-trace_unread names content before mid now Unread same read ok = inr (subst (λ (n : ℕ). Rose n (now names.trace)) (same names.trace) read, ok)
+trace_unread names content before mid now Unread same read ok = inr (subst (λ (n : ℕ). Rose n (now names.trace)) (same names.trace) read.1, ok)
 trace_unread names content before mid now Memory same read ok = tt
 trace_unread names content before mid now NotBuilt same read ok = absurd read
 trace_unread names content before mid now Trace same read ok = absurd read
@@ -88,7 +88,7 @@ refused_whole (Some bytes) text fields is refused = by_length (cases_lt 16777216
     by_length (inr h) (inr r) =
         let same : bytes ≡ text = whole bytes text 16777217 is (omega arith) in inr (subst (λ (b : List ℕ). (refusal : Refusal) × IsTraceOf b fields 4 (Err refusal)) (sym same) r)
 
-pub set_up_stop : (names : RunNames) (content : List ℕ → Option (List ℕ)) (before now : List ℕ → ℕ) (program text : List ℕ) (n : Names) (stop : Stop)
+pub set_up_stop : (names : RunNames) (content : List ℕ → Option (List ℕ)) (before now : List ℕ → ℕ) (program text : List ℕ) (n : FormNames) (stop : Stop)
     → IsRead (content names.program) 65537 program → IsFirstForm program n → IsRead (content names.trace) 16777217 text
     → SetUpStop (fields_of n) text stop → StopCause names content before now stop
 set_up_stop names content before now program text n Trace is form read refused = record {
@@ -102,7 +102,7 @@ set_up_stop names content before now program text n Memory is form read refused 
 set_up_stop names content before now program text n NotBuilt is form read refused = absurd refused
 set_up_stop names content before now program text n Unread is form read refused = absurd refused
 
-pub set_up_ready : (program_told trace_told : Option (List ℕ)) (program text : List ℕ) (n : Names) (lines : Legend) (packets : List (ℕ × List ℕ)) (packet : List ℕ)
+pub set_up_ready : (program_told trace_told : Option (List ℕ)) (program text : List ℕ) (n : FormNames) (lines : Legend) (packets : List (ℕ × List ℕ)) (packet : List ℕ)
     → IsRead program_told 65537 program → IsFirstForm program n → IsRead trace_told 16777217 text → IsSetUp n text lines packets packet
     → IsReady program_told trace_told lines packets packet
 set_up_ready program_told trace_told program text n lines packets packet is form read up =

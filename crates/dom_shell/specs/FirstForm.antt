@@ -40,19 +40,19 @@ abbrev pub is_hash_name : List ℕ → Bool
 is_hash_name text = is_same (take 4 text) (codes "hash") && is_unit (drop 4 text)
 
 -- the names of a program of this form: the field that is added, the field that takes the sum, the state word
-pub record Names : Type 0 where
+pub record FormNames : Type 0 where
   pub added : List ℕ
   pub sum : List ℕ
   pub state : List ℕ
 
 -- three names; the fields differ; the state word is neither the parameter's name nor a hash function's
-abbrev pub are_lawful : Names → Bool
+abbrev pub are_lawful : FormNames → Bool
 are_lawful n =
     is_name n.added && is_name n.sum && is_name n.state && not (is_same n.added n.sum) && not (is_same n.state (codes "pkt"))
     && not (is_hash_name n.state)
 
 -- the pieces of the program's text, in order
-abbrev pub pieces : Names → List (List ℕ)
+abbrev pub pieces : FormNames → List (List ℕ)
 pieces n =
     codes "struct Packet { int " ∷ n.added ∷ codes "; int " ∷ n.sum ∷ codes "; };\nint " ∷ n.state
     ∷ codes ";\nvoid acc(struct Packet pkt) { " ∷ n.state ∷ codes " = " ∷ n.state ∷ codes " + pkt." ∷ n.added
@@ -63,11 +63,11 @@ joined [] = []
 joined (piece ∷ rest) = piece ++ joined rest
 
 -- a program of this form: at most 65,536 bytes that are exactly these pieces
-pub record IsFirstForm (text : List ℕ) (n : Names) : Type 0 where
+pub record IsFirstForm (text : List ℕ) (n : FormNames) : Type 0 where
   pub small : length text ≤ 65536
   pub lawful : are_lawful n ≡ true
   pub text_is : text ≡ joined (pieces n)
 
 -- no names make the text a program of this form
 abbrev pub IsNotFirstForm : List ℕ → Type 0
-IsNotFirstForm text = (n : Names) → IsFirstForm text n → ⊥
+IsNotFirstForm text = (n : FormNames) → IsFirstForm text n → ⊥

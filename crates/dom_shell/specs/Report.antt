@@ -2,7 +2,7 @@
 use Rattle.std.specs.Prelude.{ℕ, ◌+◌, ◌==◌, None, Some, List, [], ◌∷◌, ◌++◌, length, codes, if◌then◌else◌}
 use Rattle.trace_text.specs.Lines.{done_line, head_line, packet_line, place_line, state_line}
 use Rattle.dom_shell.specs.Accumulator.{Entry, drain, emitted, packets_of, state_after}
-use Rattle.dom_shell.specs.FirstForm.{Names}
+use Rattle.dom_shell.specs.FirstForm.{FormNames}
 
 -- the line of what leaves in a cycle: none where no packet leaves
 abbrev pub cycle_line : ℕ → Entry → List ℕ
@@ -23,7 +23,7 @@ abbrev pub report_end : List ℕ → ℕ → ℕ → ℕ → List ℕ
 report_end state word packets cycles = state_part state word ++ (place_line state 1 ++ done_line packets (Some cycles))
 
 -- the report of the pipeline over these entries and the drain
-abbrev pub report : Names → List Entry → List ℕ
+abbrev pub report : FormNames → List Entry → List ℕ
 report n entries =
     let all = entries ++ drain in
     head_line (codes "cycle") (n.added ∷ n.sum ∷ [])

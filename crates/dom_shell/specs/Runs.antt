@@ -1,6 +1,6 @@
 -- Where the names of a program of the first form stand, if it is one.
 use Rattle.std.specs.Prelude.{ℕ, ◌+◌, List, [], ◌∷◌, length, drop, if◌then◌else◌}
-use Rattle.dom_shell.specs.FirstForm.{Names, is_word_byte}
+use Rattle.dom_shell.specs.FirstForm.{FormNames, is_word_byte}
 
 -- the longest run of word bytes at the front
 abbrev pub word_run : List ℕ → List ℕ
@@ -8,7 +8,7 @@ word_run [] = []
 word_run (byte ∷ rest) = if is_word_byte byte then byte ∷ word_run rest else []
 
 -- the names that a program of the form would have
-abbrev pub candidates : List ℕ → Names
+abbrev pub candidates : List ℕ → FormNames
 candidates text =
     let added = word_run (drop 20 text) in
     let sum = word_run (drop (length added + 26) text) in

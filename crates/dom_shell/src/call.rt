@@ -1,9 +1,8 @@
 ghost use Rattle.std.specs.Prelude.{◌≡◌, ◌≢◌, ◌<◌, ◌≤◌, ◌⊎◌, ℕ, List, None, length};
-ghost use Rattle.dom_shell.specs.Clocking.{IsPart};
-ghost use Rattle.dom_io.specs.Causes.{HasCause, Rose};
+ghost use Rattle.dom_io.specs.Causes.{Rose};
 ghost use Rattle.dom_io.specs.Held.{appended};
 ghost use Rattle.dom_shell.specs.Command.{files_named, texts_of};
-ghost use Rattle.dom_shell.specs.Result.{Answers, AreTold, IsResult, IsUnread, not_built_line, trace_line, words_line};
+ghost use Rattle.dom_shell.specs.Result.{Answers, IsRefusedProgram, IsRefusedRun, IsReported, IsResult, IsUnread, PutsLine, PutsPart, not_built_line, trace_line, words_line};
 
 use crate::command::run_files;
 use crate::prepare::{Stop, prepare};
@@ -37,14 +36,17 @@ pub fn domino<F: Shelf, S: Sink, H: HashUnits>(
 ) -> u8
     ensures status { result ≤ 6 }
     ensures exact { (status : ℕ) (bytes : List ℕ) → IsResult (texts_of words.now) (F.content shelf.old) status bytes → Answers status bytes result (S.held sink.old) (S.held sink.new) }
-    ensures told { result ≤ 3 → AreTold (texts_of words.now) (F.content shelf.old) → (bytes : List ℕ) × IsResult (texts_of words.now) (F.content shelf.old) result bytes × (S.held sink.new ≡ appended (S.held sink.old) bytes) }
     ensures words { files_named (texts_of words.now) ≡ None → (result ≡ 2) ⊎ (result ≡ 5) }
     ensures words_line { result ≡ 2 → (files_named (texts_of words.now) ≡ None) × (S.held sink.new ≡ appended (S.held sink.old) words_line) }
-    ensures not_built_line { result ≡ 1 → S.held sink.new ≡ appended (S.held sink.old) not_built_line }
-    ensures trace_line { result ≡ 3 → S.held sink.new ≡ appended (S.held sink.old) trace_line }
+    ensures not_built { result ≡ 1 → IsRefusedProgram (texts_of words.now) (F.content shelf.old) × (S.held sink.new ≡ appended (S.held sink.old) not_built_line) }
+    ensures trace { result ≡ 3 → IsRefusedRun (texts_of words.now) (F.content shelf.old) × (S.held sink.new ≡ appended (S.held sink.old) trace_line) }
+    ensures report { result ≡ 0 → IsReported (texts_of words.now) (F.content shelf.old) (S.held sink.old) (S.held sink.new) }
     ensures read_fault { result ≡ 4 → IsUnread (texts_of words.now) (F.content shelf.old) (F.faults shelf.old) (F.faults shelf.new) }
+    ensures reads_later { (name : List ℕ) → F.faults shelf.old name ≤ F.faults shelf.new name }
     ensures reads { result ≢ 4 → (name : List ℕ) → F.faults shelf.new name ≡ F.faults shelf.old name }
     ensures write_fault { result ≡ 5 → Rose (S.faults sink.old) (S.faults sink.new) }
+    ensures part { result ≡ 5 → PutsPart (texts_of words.now) (S.held sink.old) (S.held sink.new) }
+    ensures writes_later { S.faults sink.old ≤ S.faults sink.new }
     ensures writes { result ≢ 5 → S.faults sink.new ≡ S.faults sink.old }
     ensures unread { result ≡ 4 → S.held sink.new ≡ S.held sink.old }
     ensures no_memory { result ≡ 6 → S.held sink.new ≡ S.held sink.old }
@@ -69,7 +71,8 @@ pub fn domino<F: Shelf, S: Sink, H: HashUnits>(
 // Puts the line of a refusal, and answers its status.
 fn put_refusal<S: Sink>(sink: &mut S, line: &[u8], status: u8) -> u8
     requires { 0 < length line.now }
-    ensures put { ((result ≡ status) × (S.held sink.new ≡ appended (S.held sink.old) line.now) × (S.faults sink.new ≡ S.faults sink.old)) ⊎ ((result ≡ 5) × IsPart (S.held sink.old) (S.held sink.new) line.now × Rose (S.faults sink.old) (S.faults sink.new)) }
+    ensures later { S.faults sink.old ≤ S.faults sink.new }
+    ensures put { PutsLine status line.now result (S.held sink.old) (S.held sink.new) (S.faults sink.old) (S.faults sink.new) }
 {
     match sink.put(line) {
         Ok(()) => status,

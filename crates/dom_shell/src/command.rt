@@ -4,15 +4,15 @@ ghost use Rattle.dom_shell.specs.CommandNames.{names_of_run};
 
 /// The files that a command names.
 #[derive(Clone, Copy, Drop)]
-pub struct RunFiles<'a> {
+pub(crate) struct RunFiles<'a> {
     /// The name of the program's file.
-    pub program: &'a str,
+    pub(crate) program: &'a str,
     /// The name of the trace's file.
-    pub trace: &'a str,
+    pub(crate) trace: &'a str,
 }
 
 /// The files that `run raw-small PROGRAM TRACE` names; `None` where the words are of no form that is built.
-pub fn run_files(words: &[String]) -> Option<RunFiles<'_>>
+pub(crate) fn run_files(words: &[String]) -> Option<RunFiles<'_>>
     ensures { option_map names_of_run result ≡ files_named (texts_of words.entry.now) }
 {
     match words {

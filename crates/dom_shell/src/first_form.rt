@@ -1,26 +1,26 @@
 ghost use Rattle.std.specs.Prelude.{◌≡◌, ℕ, ◌+◌, ◌≤◌, ◌<◌, List, ◌++◌, length, take, drop, map, IfSome, IfNone, IsTrue, ◌↔◌, MatchOption};
 ghost use Rattle.dom_words.specs.Names.{has_name};
-ghost use Rattle.dom_shell.specs.FirstForm.{IsFirstForm, IsNotFirstForm, Names, are_lawful, is_hash_name, is_letter, is_name, is_unit, is_word, is_word_byte, joined, pieces, reserved};
+ghost use Rattle.dom_shell.specs.FirstForm.{IsFirstForm, IsNotFirstForm, FormNames, are_lawful, is_hash_name, is_letter, is_name, is_unit, is_word, is_word_byte, joined, pieces, reserved};
 ghost use Rattle.std.specs.List.{list_all};
 ghost use Rattle.dom_shell.specs.Runs.{candidates, word_run};
 ghost use Rattle.dom_shell.specs.FormNames.{names_of};
 
 /// The most bytes that a program may have.
-pub const MOST_PROGRAM_BYTES: usize = 65536;
+pub(crate) const MOST_PROGRAM_BYTES: usize = 65536;
 
 /// The names of a program of the first form (docs/LANGUAGE.md, "What runs today").
 #[derive(Clone, Copy, Drop)]
-pub struct FirstForm<'a> {
+pub(crate) struct FirstForm<'a> {
     /// The field that is added to the state word.
-    pub added: &'a [u8],
+    pub(crate) added: &'a [u8],
     /// The field that takes the sum.
-    pub sum: &'a [u8],
+    pub(crate) sum: &'a [u8],
     /// The state word.
-    pub state: &'a [u8],
+    pub(crate) state: &'a [u8],
 }
 
 /// The names of the program, where its text is of the first form.
-pub fn first_form(text: &[u8]) -> Option<FirstForm<'_>>
+pub(crate) fn first_form(text: &[u8]) -> Option<FirstForm<'_>>
     ensures some { IfSome result (λ form. IsFirstForm text.entry.now (names_of form)) }
     ensures none { IfNone result (IsNotFirstForm text.entry.now) }
 {

@@ -1,7 +1,7 @@
 ghost use Rattle.std.specs.Prelude.{◌≡◌, ◌≤◌, ◌<◌, ℕ, List, [], ◌∷◌, take, length, map, false, IfOk, IfErr, IfSome, MatchResult};
 ghost use Rattle.dom_words.specs.Names.{is_same};
 ghost use Rattle.dom_shell.specs.CommandNames.{names_of_run};
-ghost use Rattle.dom_shell.specs.FirstForm.{Names as FormNames};
+ghost use Rattle.dom_shell.specs.FirstForm.{FormNames};
 ghost use Rattle.dom_shell.specs.FormNames.{names_of};
 ghost use Rattle.dom_shell.specs.Prepared.{IsReady, IsSetUp, ReadStop, SetUpStop, StopCause, StopCounts, stop_for};
 ghost use Rattle.trace_text.specs.Trace.{refusal_of};
@@ -23,18 +23,18 @@ const CONTAINERS: u32 = 3;
 
 /// What a run needs, all of it taken before the first line is put.
 #[derive(Drop)]
-pub struct Run {
+pub(crate) struct Run {
     /// The lines of its report.
-    pub lines: Lines,
+    pub(crate) lines: Lines,
     /// The packets and their gaps.
-    pub trace: Trace,
+    pub(crate) trace: Trace,
     /// Room for the words of one packet.
-    pub packet: Packet,
+    pub(crate) packet: Packet,
 }
 
 /// Why there is nothing to run.
 #[derive(Clone, Copy, Debug)]
-pub enum Stop {
+pub(crate) enum Stop {
     /// The program is not of the first form.
     NotBuilt,
     /// The trace is too long, or refused.
@@ -57,7 +57,11 @@ impl From<Memory> for Stop {
 }
 
 /// Reads the program and the trace, each up to one byte over its limit.
-pub fn prepare<F: Shelf>(alloc: Global, files: RunFiles<'_>, shelf: &mut F) -> Result<Run, Stop>
+pub(crate) fn prepare<F: Shelf>(
+    alloc: Global,
+    files: RunFiles<'_>,
+    shelf: &mut F,
+) -> Result<Run, Stop>
     ensures ready { IfOk result (λ run. IsReady (F.content shelf.old files.entry.program.now) (F.content shelf.old files.entry.trace.now) run.lines run.trace run.packet) }
     ensures stop { IfErr result (StopCause (names_of_run files.entry) (F.content shelf.old) (F.faults shelf.old) (F.faults shelf.new)) }
     ensures counts { MatchResult result (λ _. (name : List ℕ) → F.faults shelf.new name ≡ F.faults shelf.old name) (StopCounts (F.faults shelf.old) (F.faults shelf.new)) }

@@ -4,7 +4,7 @@ ghost use Rattle.dom_io.specs.Held.{Puts};
 ghost use Rattle.trace_text.specs.Trace.{cycles_of, entries, most_cycles};
 ghost use Rattle.dom_shell.specs.Accumulator.{drain};
 ghost use Rattle.dom_shell.specs.Clocking.{IsPart, Ran, lines_from};
-ghost use Rattle.dom_shell.specs.FirstForm.{Names};
+ghost use Rattle.dom_shell.specs.FirstForm.{FormNames};
 ghost use Rattle.dom_shell.specs.Report.{report, report_end, state_part};
 ghost use Rattle.trace_text.specs.Lines.{name_at};
 
@@ -15,13 +15,13 @@ use dom_words::Packet;
 use trace_text::{Lines, Trace};
 
 /// The number of stages, and so of the idle cycles after which every packet has left.
-pub const DEPTH: u32 = 4;
+pub(crate) const DEPTH: u32 = 4;
 
 // The stage in which the state word stands.
 const STAGE: u32 = 1;
 
 /// Clocks a machine over the trace's entries and the drain, and puts the report, one line a put. Takes no memory.
-pub fn put_report<S: Sink>(
+pub(crate) fn put_report<S: Sink>(
     lines: &mut Lines,
     trace: &Trace,
     packet: &mut Packet,
@@ -32,7 +32,7 @@ pub fn put_report<S: Sink>(
     requires fields { All (λ p. length p.1 ≡ 2) trace.now }
     requires packet { length packet.old ≡ 2 }
     requires cycles { cycles_of trace.now + 4 ≤ most_cycles }
-    ensures bytes { (n : Names) → lines.old.fields ≡ n.added ∷ n.sum ∷ [] → lines.old.arrays ≡ n.state ∷ [] → Puts (S.held sink.old) (S.held sink.new) (report n (entries trace.now)) result }
+    ensures bytes { (n : FormNames) → lines.old.fields ≡ n.added ∷ n.sum ∷ [] → lines.old.arrays ≡ n.state ∷ [] → Puts (S.held sink.old) (S.held sink.new) (report n (entries trace.now)) result }
     ensures cause { HasCause (S.faults sink.old) (S.faults sink.new) result }
 {
     let Ok(()) = lines.head(sink, "cycle") else {

@@ -38,8 +38,8 @@ impl Names {
         self.names.len()
     }
 
-    #[tactic(auto, using(crate::proofs::NamesLemmas::over_map))]
     /// Puts a new name at the end and answers true; answers false and changes nothing where the name is there.
+    #[tactic(auto, using(crate::proofs::NamesLemmas::over_map))]
     pub fn add(&mut self, name: Name) -> Result<bool, Memory>
         ensures new { IfOk result (λ new. new ≡ not (has_name self.old name)) }
         ensures names { IfOk result (λ new. self.new ≡ (if new then self.old ++ name ∷ [] else self.old)) }
@@ -49,8 +49,8 @@ impl Names {
         Ok(new)
     }
 
-    #[tactic(auto, using(crate::proofs::NamesLemmas::over_map))]
     /// Where the name with these bytes stands, from 0; `None` where no name has them.
+    #[tactic(auto, using(crate::proofs::NamesLemmas::over_map))]
     pub fn find(&self, text: &[u8]) -> Option<usize>
         ensures index { result ≡ index_of self.now text.now }
         ensures found { is_some result ≡ has_name self.now text.now }

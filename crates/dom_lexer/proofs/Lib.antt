@@ -1,0 +1,9 @@
+pub mod Runs
+pub mod Blocks
+pub mod Values
+pub mod Symbols
+pub mod Found
+pub mod Steps
+pub mod One
+pub mod Exact
+pub mod Every

@@ -1,0 +1,9 @@
+use Rattle.dom_lexer.proofs.Every.{some_answer}
+use Rattle.dom_lexer.proofs.One.{one_answer}
+use Rattle.dom_lexer.proofs.laws.one_answer.Goals as goal
+
+pub returns-clause-some : goal.returns-clause-some
+returns-clause-some c = some_answer
+
+pub returns-clause-one : goal.returns-clause-one
+returns-clause-one c = one_answer

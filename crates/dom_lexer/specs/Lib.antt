@@ -1,0 +1,5 @@
+pub mod Bytes
+pub mod Text
+pub mod Answer
+pub mod Next
+pub mod Reads

@@ -1,0 +1,93 @@
+-- What the scanner's functions answer.
+use Rattle.std.specs.Prelude.{◌≡◌, ℕ, ◌+◌, ◌<◌, ◌≤◌, List, [], ◌++◌, length, drop, Option, Some, None}
+use Rattle.dom_lexer.specs.Text.{Piece, token, bytes_of, spelling, Stands, Row, tokens_of, tokens_from, StartsNothing, StartsToken, StartsOpenComment, StartsBigNumber, StartsTouchedNumber, IsFault, IsFaultAt, most_tokens}
+use Rattle.dom_lexer.specs.declared.token.TokenKind.{TokenKind}
+use Rattle.dom_lexer.specs.declared.token.TokenKind.TheVariants.{Word, Number, Sym as Sign}
+use Rattle.dom_lexer.specs.declared.token.Token.{Token}
+use Rattle.dom_lexer.specs.declared.token.LexFault.{LexFault}
+use Rattle.dom_lexer.specs.declared.token.LexFault.TheVariants.{BadByte, OpenComment, BigLiteral, TooManyTokens, Memory}
+use Rattle.dom_lexer.specs.declared.next.Form.{Form}
+use Rattle.dom_lexer.specs.declared.next.Form.TheVariants.{Letters, Digits, TooBig, Touched, Symbol}
+use Rattle.dom_lexer.specs.declared.next.Next.{Next}
+use Rattle.dom_lexer.specs.declared.next.Next.TheVariants.{Gap, Unclosed, Nothing, Start}
+
+-- the text begins with this piece, of n bytes
+pub record Begins (text : List ℕ) (n : ℕ) (p : Piece) : Type 0 where
+  pub some : 1 ≤ n
+  pub after : List ℕ
+  pub whole : text ≡ bytes_of p ++ after
+  pub size : length (bytes_of p) ≡ n
+  pub stands : Stands p after
+
+-- the text begins with white space or a comment, of n bytes
+pub record BeginsGap (text : List ℕ) (n : ℕ) : Type 0 where
+  pub piece : Piece
+  pub begins : Begins text n piece
+  pub no_token : (at : ℕ) → tokens_of at piece ≡ []
+
+-- the text begins with this token, of n bytes
+pub record BeginsToken (text : List ℕ) (kind : TokenKind) (n : ℕ) : Type 0 where
+  pub bytes : List ℕ
+  pub begins : Begins text n (token kind bytes)
+
+-- the token that starts here
+abbrev pub IsForm : List ℕ → Form → Type 0
+IsForm text (Letters n) = (w : List ℕ) × Begins text n (token (Word w) w)
+IsForm text (Digits value n) = BeginsToken text (Number value) n
+IsForm text TooBig = StartsBigNumber text
+IsForm text (Touched n) = StartsTouchedNumber text n
+IsForm text (Symbol s) = BeginsToken text (Sign s) (length (spelling s))
+
+abbrev pub IsNext : List ℕ → Next → Type 0
+IsNext text (Gap n) = BeginsGap text n
+IsNext text Unclosed = StartsOpenComment text
+IsNext text Nothing = StartsNothing text
+IsNext text (Start form) = StartsToken text × IsForm text form
+
+-- the fault of a token that starts at an offset
+abbrev pub IsTokenFault : ℕ → List ℕ → LexFault → Type 0
+IsTokenFault at rest (BadByte place) = (n : ℕ) × ((place ≡ at + n) × StartsTouchedNumber rest n)
+IsTokenFault at rest (OpenComment place) = ⊥
+IsTokenFault at rest (BigLiteral place) = (place ≡ at) × StartsBigNumber rest
+IsTokenFault at rest (TooManyTokens place) = ⊥
+IsTokenFault at rest Memory = Unit {0}
+
+-- one piece on
+pub record Grows (text : List ℕ) (at : ℕ) (old : List Token) (next : ℕ) (new : List Token) : Type 0 where
+  pub piece : Piece
+  pub forth : at < next
+  pub within : next ≤ length text
+  pub whole : drop at text ≡ bytes_of piece ++ drop next text
+  pub size : next ≡ at + length (bytes_of piece)
+  pub stands : Stands piece (drop next text)
+  pub tokens : new ≡ old ++ tokens_of at piece
+  pub few : length new ≤ most_tokens
+
+-- a fault that has the property, or want of memory
+abbrev pub OrMemory : (LexFault → Type 0) → LexFault → Type 0
+OrMemory P (BadByte place) = P (BadByte place)
+OrMemory P (OpenComment place) = P (OpenComment place)
+OrMemory P (BigLiteral place) = P (BigLiteral place)
+OrMemory P (TooManyTokens place) = P (TooManyTokens place)
+OrMemory P Memory = Unit {0}
+
+-- the fault of the rest of a text
+abbrev pub FaultHere : List ℕ → ℕ → ℕ → LexFault → Type 0
+FaultHere rest at count fault = OrMemory (IsFaultAt at count rest) fault
+
+-- the first fault of a text
+abbrev pub IsFaultOrMemory : List ℕ → LexFault → Type 0
+IsFaultOrMemory text fault = OrMemory (IsFault text) fault
+
+-- the pieces read so far
+pub record SoFar (text : List ℕ) (at : ℕ) (tokens : List Token) : Type 0 where
+  pub pieces : List Piece
+  pub within : at ≤ length text
+  pub row : Row pieces text (drop at text)
+  pub listed : tokens_from 0 pieces ≡ tokens
+  pub few : length tokens ≤ most_tokens
+
+-- so many more
+abbrev pub plus : ℕ → Option ℕ → Option ℕ
+plus n None = None
+plus n (Some k) = Some (n + k)
