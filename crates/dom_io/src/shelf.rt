@@ -2,10 +2,12 @@ ghost use Rattle.std.specs.Prelude.{◌≡◌, ◌≤◌, List, ℕ, take, vec_l
 ghost use Rattle.std.specs.declared.option.Option.{Option};
 ghost use Rattle.dom_io.specs.Reads.{ReadCause};
 
-/// Why a file was not read: a fault of the shelf, which its count tells, or want of memory.
+/// Why a file was not read.
 #[derive(Clone, Copy, Debug, PartialEq, Eq)]
 pub enum ShelfFault {
+    /// A fault of the shelf, which its count tells.
     Failed,
+    /// Want of memory.
     Memory,
 }
 

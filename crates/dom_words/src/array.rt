@@ -1,12 +1,14 @@
 use crate::name::Name;
 use crate::seq::Seq;
 
-/// An array of state words: its name, its number of words and the word that each of them starts with. A scalar is an
-/// array of one word.
+/// An array of state words. A scalar is an array of one word.
 #[derive(Debug, Drop)]
 pub struct Array {
+    /// Its name.
     pub name: Name,
+    /// Its number of words.
     pub length: u32,
+    /// The word that each of them starts with.
     pub init: u32,
 }
 

@@ -1,10 +1,11 @@
 ghost use Rattle.std.specs.Prelude.{◌≡◌, ℕ, ◌+◌, ◌*◌, ◌%◌, ◌^◌, ◌<◌, ◌≤◌, List, [], ◌∷◌, ◌++◌, length, bit_xor, take};
 
-/// The name of a hash function: how many words it takes, from 1 to 4, and the number of its letter, 0 without a letter
-/// and 1 to 8 for `a` to `h`.
+/// The name of a hash function.
 #[derive(Clone, Copy, Debug, PartialEq, Eq)]
 pub struct HashName {
+    /// How many words it takes, from 1 to 4.
     pub args: u8,
+    /// The number of its letter: 0 without a letter, 1 to 8 for `a` to `h`.
     pub letter: u8,
     ghost some_args: { 1 ≤ args },
     ghost few_args: { args ≤ 4 },
