@@ -6,6 +6,7 @@ mod hash;
 mod name;
 mod names;
 mod number;
+mod operators;
 mod packet;
 mod seq;
 #[cfg(test)]
@@ -16,5 +17,6 @@ pub use hash::{FnvUnits, HashName, HashUnits};
 pub use name::Name;
 pub use names::Names;
 pub use number::{read_count, read_word, signed};
+pub use operators::{BinOp, UnOp};
 pub use packet::Packet;
 pub use seq::{Memory, Seq};

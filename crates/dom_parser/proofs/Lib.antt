@@ -1,0 +1,17 @@
+pub mod Derived
+pub mod Exprs
+pub mod Finished
+pub mod Forms
+pub mod HeadParts
+pub mod Kept
+pub mod KnownKinds
+pub mod One
+pub mod OneProgram
+pub mod Programs
+pub mod Sizes
+pub mod Steps
+pub mod Stmts
+pub mod Traces
+pub mod Transactions
+pub mod Viable
+pub mod Whole

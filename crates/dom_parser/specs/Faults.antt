@@ -1,0 +1,52 @@
+-- Where tokens have a fault.
+use Rattle.std.specs.Prelude.{◌≡◌, ℕ, suc, ◌<◌, List, length, take}
+use Rattle.dom_lexer.specs.declared.token.Token.{Token}
+use Rattle.dom_ast.specs.Form.{ProgramForm}
+use Rattle.dom_parser.specs.declared.faults.Fault.{Fault}
+use Rattle.dom_parser.specs.declared.faults.Fault.TheVariants as place
+use Rattle.dom_parser.specs.declared.faults.ParseFault.{ParseFault}
+use Rattle.dom_parser.specs.declared.faults.ParseFault.TheVariants as answer
+use Rattle.dom_parser.specs.declared.kinds.Kind.{Kind}
+use Rattle.dom_parser.specs.declared.kinds.Kind.TheVariants as kind
+use Rattle.dom_parser.specs.Tokens.{stands, offset_at}
+use Rattle.dom_parser.specs.Grammar.{IsSpelled, IsViable, Spells}
+use Rattle.dom_parser.specs.Following.{whole}
+use Rattle.dom_parser.specs.HeadReads.{FailsWholeBy}
+
+-- the fault at a token of a kind and an offset, in a text of `end` bytes
+abbrev pub unexpected_at : Kind → ℕ → ℕ → ParseFault
+unexpected_at kind.Forbidden offset end = answer.Forbidden offset
+unexpected_at kind.End offset end = answer.Unexpected end
+unexpected_at _ offset end = answer.Unexpected offset
+
+-- a fault with its offset in the place of the token's number
+abbrev pub located_at : List Token → ℕ → Fault → ParseFault
+located_at l end (place.Unexpected p) = unexpected_at (stands l p) (offset_at l p) end
+located_at l end (place.TooNested p) = answer.TooNested (offset_at l p)
+located_at l end place.Memory = answer.Memory
+
+-- the tokens before p are a front of a program, with the one at p they are not, and together they spell none
+pub record RulesOut (l : List Token) (p : ℕ) : Type 0 where
+  pub before : IsViable (take p l)
+  pub with_it : p < length l → IsViable (take (suc p) l) → ⊥
+  pub together : (f : ProgramForm) → Spells f l → ⊥
+
+-- what a fault at a token says of the fronts of programs; a token that opens one construct too many may stand there
+abbrev pub Rules : List Token → Fault → Type 0
+Rules l (place.Unexpected p) = RulesOut l p
+Rules l (place.TooNested p) = IsViable (take (suc p) l)
+Rules l place.Memory = Unit {0}
+
+-- the fault is the first token that may not follow, or that opens one construct too many
+pub record IsFirstFault (l : List Token) (end : ℕ) (f : ParseFault) : Type 0 where
+  pub fault : Fault
+  pub located : f ≡ located_at l end fault
+  pub first : FailsWholeBy whole l 0 fault
+  pub rules : Rules l fault
+
+-- the tokens spell no program within the limit, unless memory was wanting
+abbrev pub SpellsNone : List Token → ParseFault → Type 0
+SpellsNone l answer.Memory = Unit {0}
+SpellsNone l (answer.Forbidden p) = (p : ProgramForm) → IsSpelled p l → ⊥
+SpellsNone l (answer.Unexpected p) = (p : ProgramForm) → IsSpelled p l → ⊥
+SpellsNone l (answer.TooNested p) = (p : ProgramForm) → IsSpelled p l → ⊥

@@ -1,0 +1,226 @@
+-- What tokens are to the grammar.
+use Rattle.std.specs.Prelude.{ℕ, Bool, true, false, ◌||◌, List, [], map, drop, Option, Some, None, if◌then◌else◌, slice_get, nat_eq, codes}
+use Rattle.std.specs.Cmp.Lexicographic.{pointwise}
+use Rattle.dom_words.specs.declared.operators.BinOp.{BinOp}
+use Rattle.dom_words.specs.declared.operators.BinOp.TheVariants as bin
+use Rattle.dom_words.specs.declared.operators.UnOp.{UnOp}
+use Rattle.dom_words.specs.declared.operators.UnOp.TheVariants as un
+use Rattle.dom_lexer.specs.declared.token.Sym.{Sym}
+use Rattle.dom_lexer.specs.declared.token.Sym.TheVariants as sym
+use Rattle.dom_lexer.specs.declared.token.Token.{Token}
+use Rattle.dom_lexer.specs.declared.token.TokenKind.{TokenKind}
+use Rattle.dom_lexer.specs.declared.token.TokenKind.TheVariants as token
+use Rattle.dom_parser.specs.declared.kinds.Fixed.{Fixed}
+use Rattle.dom_parser.specs.declared.kinds.Fixed.TheVariants as fixed
+use Rattle.dom_parser.specs.declared.kinds.Kind.{Kind}
+use Rattle.dom_parser.specs.declared.kinds.Kind.TheVariants as kind
+
+-- whether two words have the same bytes
+abbrev pub is_text : List ℕ → List ℕ → Bool
+is_text = pointwise nat_eq
+
+-- the words of C that the language leaves out
+abbrev pub is_forbidden : List ℕ → Bool
+is_forbidden text =
+    is_text text (codes "while")
+    || is_text text (codes "for")
+    || is_text text (codes "do")
+    || is_text text (codes "switch")
+    || is_text text (codes "case")
+    || is_text text (codes "default")
+    || is_text text (codes "goto")
+    || is_text text (codes "break")
+    || is_text text (codes "continue")
+    || is_text text (codes "return")
+    || is_text text (codes "sizeof")
+    || is_text text (codes "char")
+    || is_text text (codes "short")
+    || is_text text (codes "long")
+    || is_text text (codes "unsigned")
+    || is_text text (codes "signed")
+    || is_text text (codes "float")
+    || is_text text (codes "double")
+    || is_text text (codes "enum")
+    || is_text text (codes "union")
+    || is_text text (codes "typedef")
+    || is_text text (codes "static")
+    || is_text text (codes "const")
+    || is_text text (codes "volatile")
+    || is_text text (codes "include")
+
+-- an own word, a forbidden one, or a name
+abbrev pub word_kind : List ℕ → Kind
+word_kind text =
+    if is_text text (codes "struct") then kind.Fixed fixed.Struct else if is_text text (codes "int") then kind.Fixed fixed.Int else if is_text text (codes "void") then kind.Fixed fixed.Void else if is_text text (codes "if") then kind.Fixed fixed.If else if is_text text (codes "else") then kind.Fixed fixed.Else else if is_text text (codes "define") then kind.Fixed fixed.Define else if is_forbidden text then kind.Forbidden else kind.Name
+
+abbrev pub symbol_kind : Sym → Kind
+symbol_kind sym.Shl = kind.Operator bin.Shl
+symbol_kind sym.Shr = kind.Operator bin.Shr
+symbol_kind sym.Le = kind.Operator bin.Le
+symbol_kind sym.Ge = kind.Operator bin.Ge
+symbol_kind sym.EqEq = kind.Operator bin.Eq
+symbol_kind sym.NotEq = kind.Operator bin.Ne
+symbol_kind sym.AndAnd = kind.Operator bin.And
+symbol_kind sym.OrOr = kind.Operator bin.Or
+symbol_kind sym.Plus = kind.Operator bin.Add
+symbol_kind sym.Minus = kind.Operator bin.Sub
+symbol_kind sym.Star = kind.Operator bin.Mul
+symbol_kind sym.Slash = kind.Operator bin.Div
+symbol_kind sym.Percent = kind.Operator bin.Rem
+symbol_kind sym.Less = kind.Operator bin.Lt
+symbol_kind sym.Greater = kind.Operator bin.Gt
+symbol_kind sym.Assign = kind.Fixed fixed.Assign
+symbol_kind sym.Bang = kind.Not
+symbol_kind sym.Tilde = kind.Inv
+symbol_kind sym.Amp = kind.Operator bin.BitAnd
+symbol_kind sym.Bar = kind.Operator bin.BitOr
+symbol_kind sym.Caret = kind.Operator bin.BitXor
+symbol_kind sym.Question = kind.Fixed fixed.Question
+symbol_kind sym.Colon = kind.Fixed fixed.Colon
+symbol_kind sym.Semi = kind.Fixed fixed.Semi
+symbol_kind sym.Comma = kind.Fixed fixed.Comma
+symbol_kind sym.Dot = kind.Fixed fixed.Dot
+symbol_kind sym.OpenParen = kind.Fixed fixed.OpenParen
+symbol_kind sym.CloseParen = kind.Fixed fixed.CloseParen
+symbol_kind sym.OpenBracket = kind.Fixed fixed.OpenBracket
+symbol_kind sym.CloseBracket = kind.Fixed fixed.CloseBracket
+symbol_kind sym.OpenBrace = kind.Fixed fixed.OpenBrace
+symbol_kind sym.CloseBrace = kind.Fixed fixed.CloseBrace
+symbol_kind sym.Hash = kind.Fixed fixed.Hash
+
+abbrev pub token_kind : TokenKind → Kind
+token_kind (token.Word text) = word_kind text
+token_kind (token.Number n) = kind.Number n
+token_kind (token.Sym s) = symbol_kind s
+
+-- the bytes of a word
+abbrev pub word_text : TokenKind → List ℕ
+word_text (token.Word text) = text
+word_text (token.Number n) = []
+word_text (token.Sym s) = []
+
+-- the bytes, of a name alone
+abbrev pub name_text : Kind → List ℕ → List ℕ
+name_text kind.Name text = text
+name_text _ text = []
+
+-- a token as the grammar sees it: its offset, what it is, and the bytes of a name
+pub record Mark : Type 0 where
+  pub place : ℕ
+  pub kind : Kind
+  pub text : List ℕ
+
+abbrev pub mark : Token → Mark
+mark t = record { place = t.at; kind = token_kind t.kind; text = name_text (token_kind t.kind) (word_text t.kind) }
+
+-- the tokens from a place on
+abbrev pub rest : List Token → ℕ → List Mark
+rest l n = map mark (drop n l)
+
+-- what stands at a place, its offset, and the bytes of a word there
+abbrev pub kind_in : Option Token → Kind
+kind_in None = kind.End
+kind_in (Some t) = token_kind t.kind
+
+abbrev pub stands : List Token → ℕ → Kind
+stands l n = kind_in (slice_get l n)
+
+abbrev pub offset_in : Option Token → ℕ
+offset_in None = 0
+offset_in (Some t) = t.at
+
+abbrev pub offset_at : List Token → ℕ → ℕ
+offset_at l n = offset_in (slice_get l n)
+
+abbrev pub text_in : Option Token → List ℕ
+text_in None = []
+text_in (Some t) = word_text t.kind
+
+abbrev pub text_at : List Token → ℕ → List ℕ
+text_at l n = text_in (slice_get l n)
+
+-- how weakly an operator binds
+abbrev pub rank_of : BinOp → ℕ
+rank_of bin.Mul = 1
+rank_of bin.Div = 1
+rank_of bin.Rem = 1
+rank_of bin.Add = 2
+rank_of bin.Sub = 2
+rank_of bin.Shl = 3
+rank_of bin.Shr = 3
+rank_of bin.Lt = 4
+rank_of bin.Le = 4
+rank_of bin.Gt = 4
+rank_of bin.Ge = 4
+rank_of bin.Eq = 5
+rank_of bin.Ne = 5
+rank_of bin.BitAnd = 6
+rank_of bin.BitXor = 7
+rank_of bin.BitOr = 8
+rank_of bin.And = 9
+rank_of bin.Or = 10
+
+abbrev pub fixed_number : Fixed → ℕ
+fixed_number fixed.Struct = 0
+fixed_number fixed.Int = 1
+fixed_number fixed.Void = 2
+fixed_number fixed.If = 3
+fixed_number fixed.Else = 4
+fixed_number fixed.Define = 5
+fixed_number fixed.Assign = 6
+fixed_number fixed.Question = 7
+fixed_number fixed.Colon = 8
+fixed_number fixed.Semi = 9
+fixed_number fixed.Comma = 10
+fixed_number fixed.Dot = 11
+fixed_number fixed.OpenParen = 12
+fixed_number fixed.CloseParen = 13
+fixed_number fixed.OpenBracket = 14
+fixed_number fixed.CloseBracket = 15
+fixed_number fixed.OpenBrace = 16
+fixed_number fixed.CloseBrace = 17
+fixed_number fixed.Hash = 18
+
+-- whether this own word or symbol stands there
+abbrev pub is_fixed : Fixed → Kind → Bool
+is_fixed f (kind.Fixed g) = nat_eq (fixed_number g) (fixed_number f)
+is_fixed f _ = false
+
+abbrev pub is_name : Kind → Bool
+is_name kind.Name = true
+is_name _ = false
+
+abbrev pub number_of : Kind → Option ℕ
+number_of (kind.Number n) = Some n
+number_of _ = None
+
+abbrev pub operator_of : ℕ → Kind → Option BinOp
+operator_of n (kind.Operator o) = if nat_eq (rank_of o) n then Some o else None
+operator_of n _ = None
+
+-- a minus sign before an operand
+abbrev pub negation : BinOp → Option UnOp
+negation bin.Sub = Some un.Neg
+negation _ = None
+
+abbrev pub unary_of : Kind → Option UnOp
+unary_of (kind.Operator o) = negation o
+unary_of kind.Inv = Some un.Inv
+unary_of kind.Not = Some un.Not
+unary_of _ = None
+
+-- a fact where the test is passed
+abbrev pub Where : Bool → Type 0 → Type 0
+Where true P = P
+Where false P = Unit {0}
+
+-- whether a token stands there
+abbrev pub is_there : Kind → Bool
+is_there kind.End = false
+is_there kind.Name = true
+is_there (kind.Number w) = true
+is_there (kind.Fixed f) = true
+is_there kind.Inv = true
+is_there kind.Not = true
+is_there (kind.Operator o) = true
+is_there kind.Forbidden = true

@@ -1,0 +1,14 @@
+//! From tokens to the syntax tree.
+#![tactic(auto)]
+
+mod expressions;
+mod faults;
+mod heads;
+mod kinds;
+mod parser;
+mod statements;
+#[cfg(test)]
+mod tests;
+
+pub use faults::ParseFault;
+pub use parser::{one_program, parse};
