@@ -10,7 +10,7 @@ use Rattle.dom_lexer.specs.declared.token.Token.{Token}
 use Rattle.dom_ast.specs.declared.program.Head.{Head}
 use Rattle.dom_ast.specs.declared.program.Head.TheVariants as head
 use Rattle.dom_ast.specs.declared.program.Length.{Length}
-use Rattle.dom_ast.specs.declared.program.Length.TheVariants as length
+use Rattle.dom_ast.specs.declared.program.Length.TheVariants as extent
 use Rattle.dom_ast.specs.declared.program.Init.{Init}
 use Rattle.dom_ast.specs.declared.program.Init.TheVariants as init
 use Rattle.dom_ast.specs.Form.{ExprForm, number, word, field, index, call, un, chain, choice, ExprForms, no_exprs, expr, OpForms, no_ops, op, TargetForm, to_word, to_field, to_index, StmtForm, assign, branch, StmtForms, no_stmts, stmt, TransactionForm, ProgramForm}
@@ -411,8 +411,8 @@ size_tokens (name_size p q n r) = sign fixed.OpenBracket p ∷ name_mark q n ∷
 
 abbrev pub size_tree : Size → Option Length
 size_tree no_size = None
-size_tree (number_size p q w r) = Some (length.Number q w)
-size_tree (name_size p q n r) = Some (length.Word q n)
+size_tree (number_size p q w r) = Some (extent.Number q w)
+size_tree (name_size p q n r) = Some (extent.Word q n)
 
 abbrev pub size_opens : ℕ → Size → List ℕ
 size_opens n no_size = []
