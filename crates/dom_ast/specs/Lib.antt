@@ -1,2 +1,4 @@
 pub mod Form
+pub mod Kept
+pub mod Resolved
 pub mod Size

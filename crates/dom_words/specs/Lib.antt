@@ -1,5 +1,7 @@
 pub mod Fnv
 pub mod Names
 pub mod Number
+pub mod Operators
 pub mod Packet
+pub mod State
 pub mod formers

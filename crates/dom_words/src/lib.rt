@@ -17,6 +17,6 @@ pub use hash::{FnvUnits, HashName, HashUnits};
 pub use name::Name;
 pub use names::Names;
 pub use number::{read_count, read_word, signed};
-pub use operators::{BinOp, UnOp};
+pub use operators::{BinOp, UnOp, apply_bin, apply_un, choose, element};
 pub use packet::Packet;
 pub use seq::{Memory, Seq};

@@ -1,0 +1,27 @@
+-- State: arrays of words.
+use Rattle.std.specs.Prelude.{◌≡◌, ℕ, ◌%◌, List, [], length, map, replicate, slice_index, slice_index_or, slice_set}
+use Rattle.dom_words.specs.declared.array.Array.{Array}
+
+-- the words of array a, from 0
+abbrev pub array_of : List (List ℕ) → ℕ → List ℕ
+array_of arrays a = slice_index_or arrays a []
+
+-- the element that an index reaches among words
+abbrev pub element_of : List ℕ → ℕ → ℕ
+element_of words index = index % length words
+
+-- the word of array a at an index
+abbrev pub fetched : List (List ℕ) → ℕ → ℕ → ℕ
+fetched arrays a index = slice_index (array_of arrays a) (element_of (array_of arrays a) index)
+
+-- the arrays with another word in array a at an index
+abbrev pub stored : List (List ℕ) → ℕ → ℕ → ℕ → List (List ℕ)
+stored arrays a index word = slice_set arrays a (slice_set (array_of arrays a) (element_of (array_of arrays a) index) word)
+
+-- the words that declared arrays start with: in each array all the same
+abbrev pub started : List Array → List (List ℕ)
+started arrays = map (λ array. replicate array.length array.init) arrays
+
+-- these are words of the declared arrays
+abbrev pub IsStateOf : List Array → List (List ℕ) → Type 0
+IsStateOf arrays state = map length state ≡ map (λ array. array.length) arrays
