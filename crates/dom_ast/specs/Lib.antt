@@ -1,4 +1,9 @@
+pub mod Flanks
 pub mod Form
 pub mod Kept
+pub mod Meaning
+pub mod Named
+pub mod PartSize
 pub mod Resolved
 pub mod Size
+pub mod Straight

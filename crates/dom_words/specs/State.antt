@@ -1,6 +1,16 @@
 -- State: arrays of words.
 use Rattle.std.specs.Prelude.{◌≡◌, ℕ, ◌%◌, List, [], length, map, replicate, slice_index, slice_index_or, slice_set}
 use Rattle.dom_words.specs.declared.array.Array.{Array}
+use Rattle.dom_words.specs.declared.hash.HashName.{HashName}
+
+-- what hash units answer: a word for a unit and its arguments
+abbrev pub Hash : Type 0
+Hash = HashName → List ℕ → ℕ
+
+-- what becomes of a packet and of a state
+pub record Outcome : Type 0 where
+  pub packet : List ℕ
+  pub arrays : List (List ℕ)
 
 -- the words of array a, from 0
 abbrev pub array_of : List (List ℕ) → ℕ → List ℕ

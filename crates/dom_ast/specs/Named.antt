@@ -1,0 +1,169 @@
+-- Lists with one name for each value.
+use Rattle.std.specs.Prelude.{ℕ, suc, ◌+◌, Bool, true, false, not, ◌&&◌, nat_eq, nat_lt, List, [], ◌∷◌, ◌++◌, fold, map, sum, slice_index, slice_index_or}
+use Rattle.std.specs.List.{list_all, list_any}
+use Rattle.dom_words.specs.State.{Hash, Outcome, fetched, stored}
+use Rattle.dom_ast.specs.declared.named.NamedItem.{NamedItem}
+use Rattle.dom_ast.specs.declared.named.NamedItem.TheVariants as item
+use Rattle.dom_ast.specs.Resolved.{PartForm, form, number, field, state, fresh, made, call, un, chain, choice}
+use Rattle.dom_ast.specs.Kept.{Ranges, part_within}
+use Rattle.dom_ast.specs.Meaning.{Names, value}
+use Rattle.dom_ast.specs.PartSize.{part_nodes}
+
+pub data NamedForm : Type 0 where
+  read : ℕ → PartForm → NamedForm
+  make : PartForm → NamedForm
+  write : ℕ → PartForm → PartForm → NamedForm
+
+abbrev pub named_form : NamedItem → NamedForm
+named_form (item.Read a i) = read a (form i)
+named_form (item.Make p) = make (form p)
+named_form (item.Write a i p) = write a (form i) (form p)
+
+-- a number, a field or a made value
+abbrev pub is_operand : PartForm → Bool
+is_operand (number w) = true
+is_operand (field f) = true
+is_operand (made k) = true
+is_operand (state a i) = false
+is_operand (fresh k) = false
+is_operand (call unit ps) = false
+is_operand (un o p) = false
+is_operand (chain p os) = false
+is_operand (choice c p q) = false
+
+abbrev pub is_number : ℕ → PartForm → Bool
+is_number w (number v) = nat_eq w v
+is_number w (field f) = false
+is_number w (made k) = false
+is_number w (state a i) = false
+is_number w (fresh k) = false
+is_number w (call unit ps) = false
+is_number w (un o p) = false
+is_number w (chain p os) = false
+is_number w (choice c p q) = false
+
+abbrev pub is_field : ℕ → PartForm → Bool
+is_field f (field g) = nat_eq f g
+is_field f (number v) = false
+is_field f (made k) = false
+is_field f (state a i) = false
+is_field f (fresh k) = false
+is_field f (call unit ps) = false
+is_field f (un o p) = false
+is_field f (chain p os) = false
+is_field f (choice c p q) = false
+
+abbrev pub is_value : ℕ → PartForm → Bool
+is_value k (made j) = nat_eq k j
+is_value k (number v) = false
+is_value k (field f) = false
+is_value k (state a i) = false
+is_value k (fresh j) = false
+is_value k (call unit ps) = false
+is_value k (un o p) = false
+is_value k (chain p os) = false
+is_value k (choice c p q) = false
+
+-- two operands are the same
+abbrev pub is_same_operand : PartForm → PartForm → Bool
+is_same_operand (number w) p = is_number w p
+is_same_operand (field f) p = is_field f p
+is_same_operand (made k) p = is_value k p
+is_same_operand (state a i) p = false
+is_same_operand (fresh k) p = false
+is_same_operand (call unit ps) p = false
+is_same_operand (un o q) p = false
+is_same_operand (chain q os) p = false
+is_same_operand (choice c q r) p = false
+
+-- which items make a value
+abbrev pub makes : NamedForm → Bool
+makes (read a i) = true
+makes (make p) = true
+makes (write a i p) = false
+
+abbrev pub makes_of : List NamedForm → List Bool
+makes_of items = map makes items
+
+-- an expression may name the fields and the values of the items so far that make one
+abbrev pub named_ranges : ℕ → List Bool → Ranges
+named_ranges fields made_so_far =
+    record { fields = fields; arrays = 0; fresh = 0; is_made = λ k. slice_index_or made_so_far k false }
+
+abbrev pub operand_within : ℕ → List Bool → PartForm → Bool
+operand_within fields made_so_far p = is_operand p && part_within (named_ranges fields made_so_far) p
+
+-- an array that is read, with its index
+pub record ReadForm : Type 0 where
+  pub array : ℕ
+  pub index : PartForm
+
+abbrev pub is_read : List ReadForm → ℕ → Bool
+is_read reads a = list_any (λ r. nat_eq r.array a) reads
+
+abbrev pub is_read_at : List ReadForm → ℕ → PartForm → Bool
+is_read_at reads a i = list_any (λ r. nat_eq r.array a && is_same_operand r.index i) reads
+
+abbrev pub is_written : List ℕ → ℕ → Bool
+is_written writes a = list_any (nat_eq a) writes
+
+-- after items that make these values, with these reads and writes: numbers are in range, values are used after they are
+-- made, no array is read twice or written twice, and a write stands after its array's read and has its index
+abbrev pub are_named : ℕ → ℕ → List Bool → List ReadForm → List ℕ → List NamedForm → Bool
+are_named fields arrays before reads writes [] = true
+are_named fields arrays before reads writes (read a i ∷ items) =
+    nat_lt a arrays
+    && (operand_within fields before i
+    && (not (is_read reads a)
+    && are_named fields arrays (before ++ true ∷ []) (record { array = a; index = i } ∷ reads) writes items))
+are_named fields arrays before reads writes (make p ∷ items) =
+    part_within (named_ranges fields before) p && are_named fields arrays (before ++ true ∷ []) reads writes items
+are_named fields arrays before reads writes (write a i p ∷ items) =
+    nat_lt a arrays
+    && (operand_within fields before i
+    && (operand_within fields before p
+    && (is_read_at reads a i
+    && (not (is_written writes a)
+    && are_named fields arrays (before ++ false ∷ []) reads (a ∷ writes) items))))
+
+abbrev pub are_outputs : ℕ → List Bool → List PartForm → Bool
+are_outputs fields made_so_far outputs = list_all (operand_within fields made_so_far) outputs
+
+-- the words of the arrays, and the value of each item so far; a write makes 0, which nothing uses
+pub record NamedEnv : Type 0 where
+  pub arrays : List (List ℕ)
+  pub made : List ℕ
+
+abbrev pub named_names : List ℕ → List ℕ → Names
+named_names packet values = record { field = slice_index packet; state = λ a i. 0; fresh = λ k. 0; made = slice_index values }
+
+abbrev pub named_value : Hash → List ℕ → NamedEnv → PartForm → ℕ
+named_value hash packet env p = value hash (named_names packet env.made) p
+
+-- what an item does, for an entered packet
+abbrev pub named_step : Hash → List ℕ → NamedEnv → NamedForm → NamedEnv
+named_step hash packet env (read a i) =
+    record { arrays = env.arrays; made = env.made ++ fetched env.arrays a (named_value hash packet env i) ∷ [] }
+named_step hash packet env (make p) = record { arrays = env.arrays; made = env.made ++ named_value hash packet env p ∷ [] }
+named_step hash packet env (write a i p) =
+    record { arrays = stored env.arrays a (named_value hash packet env i) (named_value hash packet env p); made = env.made ++ 0 ∷ [] }
+
+abbrev pub all_named : Hash → List ℕ → NamedEnv → List NamedForm → NamedEnv
+all_named hash packet env items = fold (named_step hash packet) env items
+
+abbrev pub named_end : Hash → List ℕ → List PartForm → NamedEnv → Outcome
+named_end hash packet outputs env = record { packet = map (named_value hash packet env) outputs; arrays = env.arrays }
+
+-- what items and outputs make of a packet and a state
+abbrev pub named_outcome : Hash → List NamedForm → List PartForm → List ℕ → List (List ℕ) → Outcome
+named_outcome hash items outputs packet arrays =
+    named_end hash packet outputs (all_named hash packet (record { arrays = arrays; made = [] }) items)
+
+-- the items and the expression nodes in them and in the outputs
+abbrev pub item_nodes : NamedForm → ℕ
+item_nodes (read a i) = suc (part_nodes i)
+item_nodes (make p) = suc (part_nodes p)
+item_nodes (write a i p) = suc (part_nodes i + part_nodes p)
+
+abbrev pub named_nodes : List NamedForm → List PartForm → ℕ
+named_nodes items outputs = sum (map item_nodes items) + sum (map part_nodes outputs)
