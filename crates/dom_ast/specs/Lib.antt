@@ -1,3 +1,4 @@
+pub mod CheckedForm
 pub mod Flanks
 pub mod Form
 pub mod Kept

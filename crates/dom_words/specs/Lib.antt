@@ -4,4 +4,5 @@ pub mod Number
 pub mod Operators
 pub mod Packet
 pub mod State
+pub mod Units
 pub mod formers

@@ -1,0 +1,98 @@
+-- A program with each name as its number and each define as its word. Of a program that is not well formed nothing is said.
+use Rattle.std.specs.Prelude.{ℕ, List, map, Option, Some, None, unwrap_or}
+use Rattle.dom_words.specs.Names.{index_of}
+use Rattle.dom_words.specs.Units.{unit_named}
+use Rattle.dom_words.specs.declared.hash.HashName.{HashName}
+use Rattle.dom_ast.specs.declared.part.Goal.{Goal}
+use Rattle.dom_ast.specs.declared.part.Goal.TheVariants as goal
+use Rattle.dom_ast.specs.declared.part.Place.{Place}
+use Rattle.dom_ast.specs.declared.part.Place.TheVariants as place
+use Rattle.dom_ast.specs.Form.{ExprForm, ExprForms, no_exprs, expr, StmtForm, StmtForms, no_stmts, stmt, TargetForm, to_word, to_field, to_index, TransactionForm, ProgramForm}
+use Rattle.dom_ast.specs.Form as syntax
+use Rattle.dom_ast.specs.Resolved.{PartForm, PartForms, no_parts, part, ActForm, ActForms, no_acts, act, BodyForm, CheckedForm}
+use Rattle.dom_ast.specs.Resolved as tree
+use Rattle.dom_checks.specs.declared.meant.Meant.{Meant}
+use Rattle.dom_checks.specs.declared.meant.Meant.TheVariants as meaning
+use Rattle.dom_checks.specs.Scope.{Scope, define_word, heads_scope, meant, with_param}
+
+-- the number of a field
+abbrev pub field_number : Scope → List ℕ → ℕ
+field_number scope name = unwrap_or (index_of scope.fields name) 0
+
+-- the number of an array
+abbrev pub array_number : Option Meant → ℕ
+array_number None = 0
+array_number (Some (meaning.Define w)) = 0
+array_number (Some (meaning.Scalar k)) = k
+array_number (Some (meaning.Array k)) = k
+array_number (Some meaning.Parameter) = 0
+
+-- a name that is a value: a define is its word, and a scalar is an array's one word
+abbrev pub name_part : Option Meant → PartForm
+name_part None = tree.number 0
+name_part (Some (meaning.Define w)) = tree.number w
+name_part (Some (meaning.Scalar k)) = tree.state k (place.Word 0)
+name_part (Some (meaning.Array k)) = tree.number 0
+name_part (Some meaning.Parameter) = tree.number 0
+
+-- an index: a number, a define or a packet field
+abbrev pub place_of : Scope → ExprForm → Place
+place_of scope (syntax.number p w) = place.Word w
+place_of scope (syntax.word p n) = place.Word (define_word (meant scope n))
+place_of scope (syntax.field p b q f) = place.Field (field_number scope f)
+place_of scope (syntax.index p n e) = place.Word 0
+place_of scope (syntax.call p n es) = place.Word 0
+place_of scope (syntax.un p o e) = place.Word 0
+place_of scope (syntax.chain e os) = place.Word 0
+place_of scope (syntax.choice e a b) = place.Word 0
+
+abbrev pub call_part : Option HashName → PartForms → PartForm
+call_part None parts = tree.number 0
+call_part (Some unit) parts = tree.call unit parts
+
+abbrev mutual
+  pub part_of : Scope → ExprForm → PartForm
+  part_of scope (syntax.number p w) = tree.number w
+  part_of scope (syntax.word p n) = name_part (meant scope n)
+  part_of scope (syntax.field p b q f) = tree.field (field_number scope f)
+  part_of scope (syntax.index p n e) = tree.state (array_number (meant scope n)) (place_of scope e)
+  part_of scope (syntax.call p n es) = call_part (unit_named n) (parts_of scope es)
+  part_of scope (syntax.un p o e) = tree.un o (part_of scope e)
+  part_of scope (syntax.chain e os) = tree.chain (part_of scope e) (ops_of scope os)
+  part_of scope (syntax.choice e a b) = tree.choice (part_of scope e) (part_of scope a) (part_of scope b)
+
+  pub parts_of : Scope → ExprForms → PartForms
+  parts_of scope no_exprs = no_parts
+  parts_of scope (expr e es) = part (part_of scope e) (parts_of scope es)
+
+  pub ops_of : Scope → syntax.OpForms → tree.OpForms
+  ops_of scope syntax.no_ops = tree.no_ops
+  ops_of scope (syntax.op o e os) = tree.op o (part_of scope e) (ops_of scope os)
+
+abbrev pub goal_of : Scope → TargetForm → Goal
+goal_of scope (to_word n) = goal.State (array_number (meant scope n)) (place.Word 0)
+goal_of scope (to_field b q f) = goal.Field (field_number scope f)
+goal_of scope (to_index n e) = goal.State (array_number (meant scope n)) (place_of scope e)
+
+abbrev mutual
+  pub act_of : Scope → StmtForm → ActForm
+  act_of scope (syntax.assign p t e) = tree.assign (goal_of scope t) (part_of scope e)
+  act_of scope (syntax.branch e a b) = tree.branch (part_of scope e) (acts_of scope a) (acts_of scope b)
+
+  pub acts_of : Scope → StmtForms → ActForms
+  acts_of scope no_stmts = no_acts
+  acts_of scope (stmt s ss) = act (act_of scope s) (acts_of scope ss)
+
+abbrev pub guard_of : Scope → Option ExprForm → Option PartForm
+guard_of scope None = None
+guard_of scope (Some e) = Some (part_of scope e)
+
+-- a transaction, whose parameter is declared in it
+abbrev pub body_of : Scope → TransactionForm → BodyForm
+body_of scope t =
+    record { guard = guard_of (with_param scope t.param) t.guard; acts = acts_of (with_param scope t.param) t.body }
+
+abbrev pub resolved : ProgramForm → CheckedForm
+resolved p =
+    let scope = heads_scope p.heads in
+    record { fields = scope.fields; arrays = scope.arrays; bodies = map (body_of scope) p.transactions }
