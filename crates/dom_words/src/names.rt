@@ -1,5 +1,6 @@
 ghost use Rattle.std.specs.Prelude.{◌≡◌, [], ◌∷◌, ◌++◌, ◌<◌, length, slice_get, slice_index_or, is_some, not, if◌then◌else◌, IfOk, IfSome, OnErr, Some};
-ghost use Rattle.dom_words.specs.Names.{has_name, index_of};
+ghost use Rattle.dom_words.specs.Names.{has_name, index_of, is_same};
+ghost use Rattle.std.specs.List.{IsDistinct};
 
 use crate::name::Name;
 use crate::seq::Memory;
@@ -31,9 +32,10 @@ impl Names {
         }
     }
 
-    /// The number of names.
+    /// The number of names. No two of them have the same bytes.
     pub fn len(&self) -> usize
-        ensures { result ≡ length self.now }
+        ensures number { result ≡ length self.now }
+        ensures distinct { IsDistinct is_same self.now }
     {
         self.names.len()
     }
@@ -66,5 +68,17 @@ impl Names {
         ensures same { result.now ≡ slice_index_or self.now k result.now }
     {
         self.names.as_slice()[k].as_slice()
+    }
+
+    /// The same names in the same order.
+    pub fn copy(&self, alloc: Global) -> Result<Names, Memory>
+        ensures { IfOk result (λ names. names ≡ self.now) }
+    {
+        let mut names = Names::new(alloc);
+        for k in 0..self.len() {
+            let name = Name::of(alloc, self.get(k))?;
+            let _new = names.add(name)?;
+        }
+        Ok(names)
     }
 }
