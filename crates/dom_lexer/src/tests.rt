@@ -47,6 +47,7 @@ fn texts(rt: HostRuntime) -> Result<(), Fail> {
         ("_1 \t\r\n", "0 _1, end 6"),
         ("a//b\nc/**/d/***/", "0 a, 5 c, 10 d, end 16"),
         ("a/b//", "0 a, 1 Slash, 2 b, end 5"),
+        ("a // b", "0 a, end 6"),
         ("@", "BadByte(0)"),
         ("struct P { int x; }; /*", "OpenComment(21)"),
         ("/*/", "OpenComment(0)"),
@@ -59,6 +60,7 @@ fn texts(rt: HostRuntime) -> Result<(), Fail> {
         ("0x1g", "BadByte(3)"),
         ("07", "BadByte(1)"),
         ("1a", "BadByte(1)"),
+        ("0_", "BadByte(1)"),
     ];
     for (text, want) in rows {
         assert!(rt; text.len() <= 65536);

@@ -8,7 +8,7 @@ ghost use Rattle.dom_parser.specs.Grammar.{top};
 ghost use Rattle.dom_parser.specs.Following.{begin_of, level, limit, name_rest, suffix_of};
 ghost use Rattle.dom_parser.specs.Reads.{FailsBy, FailsIn, Reads, ReadsArgs, ReadsIn, SpellsExpr, negated_in};
 
-use crate::faults::Fault;
+use crate::faults::{Fault, MOST_OPEN};
 use crate::kinds::{
     Begin, Fixed, Suffix, begin_at, is_fixed, is_name, name_at, number_at, offset, operator_at,
     suffix_at, unary_at,
@@ -117,7 +117,7 @@ fn conditional(
     if !is_fixed(tokens, start, Fixed::Question) {
         return Ok((test, start));
     }
-    if depth == 64 {
+    if depth == MOST_OPEN {
         return Err(Fault::TooNested(start));
     }
     match expression(alloc, tokens, start + 1, depth + 1) {
@@ -188,7 +188,7 @@ fn operated(
     ensures ok { IfOk result (λ r. Reads (level 0) depth (SpellsExpr 0 (form r.0)) tokens.now at r.1) }
     ensures err { IfErr result (λ f. FailsBy (level 0) depth tokens.now at f) }
 {
-    if depth == 64 {
+    if depth == MOST_OPEN {
         return Err(Fault::TooNested(at));
     }
     match unary(alloc, tokens, at + 1, depth + 1) {
@@ -315,7 +315,7 @@ pub(crate) fn enclosed(
     ensures ok { IfOk result (λ r. ReadsIn partner depth tokens.now at r.1 (form r.0)) }
     ensures err { IfErr result (λ f. FailsIn partner depth tokens.now at f) }
 {
-    if depth == 64 {
+    if depth == MOST_OPEN {
         return Err(Fault::TooNested(at));
     }
     match expression(alloc, tokens, at + 1, depth + 1) {
@@ -344,7 +344,7 @@ fn arguments(
     ensures ok { IfOk result (λ r. ReadsArgs depth tokens.now at r.1 (forms r.0)) }
     ensures err { IfErr result (λ f. FailsBy name_rest depth tokens.now at f) }
 {
-    if depth == 64 {
+    if depth == MOST_OPEN {
         return Err(Fault::TooNested(at));
     }
     if is_fixed(tokens, at + 1, Fixed::CloseParen) {

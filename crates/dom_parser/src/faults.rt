@@ -11,7 +11,10 @@ pub enum ParseFault {
     Memory,
 }
 
-/// The same with the token's number, from 0, in the place of its offset.
+/// So many constructs may be open at a token.
+pub(crate) const MOST_OPEN: u32 = 64;
+
+/// A fault with the token's number, from 0, in the place of its offset.
 #[derive(Clone, Copy, Debug, PartialEq, Eq)]
 pub(crate) enum Fault {
     Unexpected(usize),

@@ -7,7 +7,7 @@ ghost use Rattle.dom_parser.specs.Following.{begins, lead_of, limit};
 ghost use Rattle.dom_parser.specs.Reads.{FailsBy, Passes, Reads, ReadsGoal, SpellsAssign, SpellsBlock, SpellsBody, SpellsCondition, SpellsElse, SpellsStmt};
 
 use crate::expressions::{enclosed, expression};
-use crate::faults::Fault;
+use crate::faults::{Fault, MOST_OPEN};
 use crate::kinds::{Fixed, Lead, Suffix, is_fixed, is_name, lead_at, name_at, offset, suffix_at};
 use dom_ast::{Expr, Stmt, StmtList, Target};
 use dom_lexer::Token;
@@ -51,7 +51,7 @@ pub(crate) fn block(
     if !is_fixed(tokens, at, Fixed::OpenBrace) {
         return Err(Fault::Unexpected(at));
     }
-    if depth == 64 {
+    if depth == MOST_OPEN {
         return Err(Fault::TooNested(at));
     }
     let mut next = at + 1;
@@ -107,7 +107,7 @@ fn branch(alloc: Global, tokens: &[Token], at: usize, depth: u32) -> Result<(Stm
     ensures ok { IfOk result (λ r. Reads item.stmt depth (SpellsStmt (stmt_form r.0)) tokens.now at r.1) }
     ensures err { IfErr result (λ f. FailsBy item.stmt depth tokens.now at f) }
 {
-    if depth == 64 {
+    if depth == MOST_OPEN {
         return Err(Fault::TooNested(at));
     }
     match condition(alloc, tokens, at + 1, depth + 1) {

@@ -5,8 +5,8 @@ use Rattle.dom_parser.specs.Following.{level}
 use Rattle.dom_parser.proofs.Exprs.{fails_lower, fails_first, level_next, level_fails, level_one, plain_choice, choice_deep, choice_fails, choice_colon, choice_other, full_choice, operated_deep, operated_fails, fails_other, reads_parens, fails_parens, reads_index, fails_index, fails_call, in_deep, in_fails, in_open, in_closed, args_deep, reads_empty, args_fail, args_start, args_next, args_next_fails, args_open, args_closed, as_form, number_read, negated_read, word_read, call_read, operated_read, chain_read}
 use Rattle.dom_parser.proofs.expressions.+expressions.Goals as goal
 
-pub arguments-returns-then-depth-eq64-clause-err : goal.arguments-returns-then-depth-eq64-clause-err
-arguments-returns-then-depth-eq64-clause-err t c = args_deep c.args.depth c.args.tokens.now c.args.at c.requires.bracket c.if-depth-eq64.true
+pub arguments-returns-then-depth-eq-MOST_OPEN-clause-err : goal.arguments-returns-then-depth-eq-MOST_OPEN-clause-err
+arguments-returns-then-depth-eq-MOST_OPEN-clause-err t c = args_deep c.args.depth c.args.tokens.now c.args.at c.requires.bracket c.if-depth-eq-MOST_OPEN.true
 
 pub arguments-returns-then-is_fixed-clause-ok : goal.arguments-returns-then-is_fixed-clause-ok
 arguments-returns-then-is_fixed-clause-ok t c =
@@ -20,9 +20,9 @@ pub conditional-returns-then-not-is_fixed-clause-ok : goal.conditional-returns-t
 conditional-returns-then-not-is_fixed-clause-ok t c =
     plain_choice c.args.depth c.args.tokens.now c.args.at c.args.start (form c.args.test) c.requires.first (sym c.if-not-is_fixed.ensures.value)
 
-pub conditional-returns-then-depth-eq64-clause-err : goal.conditional-returns-then-depth-eq64-clause-err
-conditional-returns-then-depth-eq64-clause-err t c =
-    choice_deep c.args.depth _ c.args.tokens.now c.args.at c.args.start c.requires.first (sym c.if-not-is_fixed.ensures.value) c.if-depth-eq64.true
+pub conditional-returns-then-depth-eq-MOST_OPEN-clause-err : goal.conditional-returns-then-depth-eq-MOST_OPEN-clause-err
+conditional-returns-then-depth-eq-MOST_OPEN-clause-err t c =
+    choice_deep c.args.depth _ c.args.tokens.now c.args.at c.args.start c.requires.first (sym c.if-not-is_fixed.ensures.value) c.if-depth-eq-MOST_OPEN.true
 
 pub conditional-returns-in_ok-choice-in-Ok-expression-clause-ok : goal.conditional-returns-in_ok-choice-in-Ok-expression-clause-ok
 conditional-returns-in_ok-choice-in-Ok-expression-clause-ok t c =
@@ -40,8 +40,8 @@ pub conditional-returns-in-Err-clause-err : goal.conditional-returns-in-Err-clau
 conditional-returns-in-Err-clause-err t c =
     choice_fails c.args.depth _ c.args.tokens.now c.args.at c.args.start c.in-Err.fault c.requires.first (sym c.if-not-is_fixed.ensures.value) (omega arith) c.in-Err.ensures.err
 
-pub enclosed-returns-then-depth-eq64-clause-err : goal.enclosed-returns-then-depth-eq64-clause-err
-enclosed-returns-then-depth-eq64-clause-err t c = in_deep c.args.partner c.args.depth c.args.tokens.now c.args.at c.if-depth-eq64.true
+pub enclosed-returns-then-depth-eq-MOST_OPEN-clause-err : goal.enclosed-returns-then-depth-eq-MOST_OPEN-clause-err
+enclosed-returns-then-depth-eq-MOST_OPEN-clause-err t c = in_deep c.args.partner c.args.depth c.args.tokens.now c.args.at c.if-depth-eq-MOST_OPEN.true
 
 pub enclosed-returns-then-is_fixed-clause-ok : goal.enclosed-returns-then-is_fixed-clause-ok
 enclosed-returns-then-is_fixed-clause-ok t c =
@@ -113,9 +113,9 @@ pub operands-returns-in-Ok-new-clause-ok : goal.operands-returns-in-Ok-new-claus
 operands-returns-in-Ok-new-clause-ok t c =
     chain_read c.args.depth c.args.rank c.args.tokens.now c.args.at c.operands.next c.in-Ok-new.first c.operands.rest _ c.requires.positive c.requires.rank c.operands.invariant (sym c.operator_at.ensures.value ∙ c.in_default.is) (λ e. c.if-len-eq0.false (c.len.ensures ∙ e)) c.in-Ok-new.ensures.ok
 
-pub operated-returns-then-depth-eq64-clause-err : goal.operated-returns-then-depth-eq64-clause-err
-operated-returns-then-depth-eq64-clause-err t c =
-    operated_deep c.args.depth c.args.tokens.now c.args.at c.args.op c.requires.op c.requires.node c.if-depth-eq64.true
+pub operated-returns-then-depth-eq-MOST_OPEN-clause-err : goal.operated-returns-then-depth-eq-MOST_OPEN-clause-err
+operated-returns-then-depth-eq-MOST_OPEN-clause-err t c =
+    operated_deep c.args.depth c.args.tokens.now c.args.at c.args.op c.requires.op c.requires.node c.if-depth-eq-MOST_OPEN.true
 
 pub operated-returns-in_ok-arg-in-Ok-clause-ok : goal.operated-returns-in_ok-arg-in-Ok-clause-ok
 operated-returns-in_ok-arg-in-Ok-clause-ok t c =

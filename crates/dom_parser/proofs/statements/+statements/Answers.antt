@@ -7,9 +7,9 @@ pub block-returns-then-not-is_fixed-clause-err : goal.block-returns-then-not-is_
 block-returns-then-not-is_fixed-clause-err t c =
     no_block c.args.depth c.args.tokens.now c.args.at (sym c.if-not-is_fixed.ensures.value)
 
-pub block-returns-then-depth-eq64-clause-err : goal.block-returns-then-depth-eq64-clause-err
-block-returns-then-depth-eq64-clause-err t c =
-    block_deep c.args.depth c.args.tokens.now c.args.at (sym c.if-not-is_fixed.ensures.value) c.if-depth-eq64.true
+pub block-returns-then-depth-eq-MOST_OPEN-clause-err : goal.block-returns-then-depth-eq-MOST_OPEN-clause-err
+block-returns-then-depth-eq-MOST_OPEN-clause-err t c =
+    block_deep c.args.depth c.args.tokens.now c.args.at (sym c.if-not-is_fixed.ensures.value) c.if-depth-eq-MOST_OPEN.true
 
 pub block-statements-init : goal.block-statements-init
 block-statements-init t c =
@@ -47,9 +47,9 @@ pub statement-returns-in-Other-clause-err : goal.statement-returns-in-Other-clau
 statement-returns-in-Other-clause-err t c =
     no_stmt_other c.args.depth c.args.tokens.now c.args.at (sym c.in-Other.ensures.value)
 
-pub branch-returns-then-depth-eq64-clause-err : goal.branch-returns-then-depth-eq64-clause-err
-branch-returns-then-depth-eq64-clause-err t c =
-    if_deep c.args.depth c.args.tokens.now c.args.at c.requires.lead c.if-depth-eq64.true
+pub branch-returns-then-depth-eq-MOST_OPEN-clause-err : goal.branch-returns-then-depth-eq-MOST_OPEN-clause-err
+branch-returns-then-depth-eq-MOST_OPEN-clause-err t c =
+    if_deep c.args.depth c.args.tokens.now c.args.at c.requires.lead c.if-depth-eq-MOST_OPEN.true
 
 pub branch-returns-in-Err-clause-err : goal.branch-returns-in-Err-clause-err
 branch-returns-in-Err-clause-err t c =
