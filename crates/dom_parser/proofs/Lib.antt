@@ -2,6 +2,7 @@ pub mod Derived
 pub mod Exprs
 pub mod Finished
 pub mod Forms
+pub mod Growth
 pub mod HeadParts
 pub mod Kept
 pub mod KnownKinds
@@ -11,6 +12,7 @@ pub mod Programs
 pub mod Sizes
 pub mod Steps
 pub mod Stmts
+pub mod TooMany
 pub mod Traces
 pub mod Transactions
 pub mod Viable

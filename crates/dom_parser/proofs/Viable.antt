@@ -90,13 +90,13 @@ look_over i s next k n (Some row) b e r rec =
 look_over i s next k n None true e r rec = ap (λ (y : Option (List Item)). resume y true (step s k (number_first (finish next))) s) (expand_any i k n (number_first (finish next)) e) ∙ rec r
 look_over i s next k n None false e r rec = absurd (cc)
 
-look : (s next : List Item) (k : Kind) (n : Bool) → step s k n ≡ Some next → step s k (number_first (finish next)) ≡ Some next
+pub look : (s next : List Item) (k : Kind) (n : Bool) → step s k n ≡ Some next → step s k (number_first (finish next)) ≡ Some next
 look [] next k n e = absurd (cc)
 look (i ∷ s) next k n e = look_over i s next k n (expand i k n) (may_skip i) refl e (λ f. look s next k n f)
 
 -- clean tokens
 
-both_clean : (a b : List Mark) → AllClean a → AllClean b → AllClean (a ++ b)
+pub both_clean : (a b : List Mark) → AllClean a → AllClean b → AllClean (a ++ b)
 both_clean [] b x y = y
 both_clean (t ∷ a) b x y = (x.0, both_clean a b x.1 y)
 
@@ -135,7 +135,7 @@ least_clean item.header = (refl, (refl, (refl, (refl, (refl, tt)))))
 least_clean item.guard = tt
 least_clean item.transactions = tt
 
-finish_clean : (s : List Item) → AllClean (finish s)
+pub finish_clean : (s : List Item) → AllClean (finish s)
 finish_clean [] = tt
 finish_clean (i ∷ s) = both_clean (least i) (finish s) (least_clean i) (finish_clean s)
 
@@ -149,11 +149,11 @@ twice (kind.Operator o) x = refl
 twice kind.Forbidden x = refl
 twice kind.End x = refl
 
-marks_clean : (l : List Token) → AllClean (map mark l)
+pub marks_clean : (l : List Token) → AllClean (map mark l)
 marks_clean [] = tt
 marks_clean (t ∷ l) = (twice (token_kind t.kind) (word_text t.kind), marks_clean l)
 
-take_clean : (k : ℕ) (l : List Mark) → AllClean l → AllClean (take k l)
+pub take_clean : (k : ℕ) (l : List Mark) → AllClean l → AllClean (take k l)
 take_clean zero l c = tt
 take_clean (suc k) [] c = tt
 take_clean (suc k) (t ∷ l) c = (c.0, take_clean k l c.1)
@@ -197,63 +197,3 @@ viable_before l p e =
     let f = completed (map mark l) whole 0 p whole_good (e ∙ ap (λ (q : ℕ). Some (bad q)) (sym none)) in
     let w = spelled (take p (map mark l) ++ f.0) f.1 (both_clean (take p (map mark l)) f.0 (take_clean p (map mark l) (marks_clean l)) f.2) f.3 in
     (w.0, w.1, f.0, w.2 ∙ ap (λ (x : List Mark). x ++ f.0) (sym (take_map p l)))
-
--- the same with a token that opens one construct too many
-
-later : (t : Trace) (p q : ℕ) → problem p t ≡ Some (deep q) → p ≤ q
-later fine p q e = absurd (cc)
-later stuck p q e = absurd (cc)
-later (count n t) p q e = go (nat_le n limit) e (λ f. later t (p + 1) q f)
-  where
-    go : (b : Bool) → (if b then problem (p + 1) t else Some (deep p)) ≡ Some (deep q) → (problem (p + 1) t ≡ Some (deep q) → p + 1 ≤ q) → p ≤ q
-    go true f rec = let h = rec f in omega arith
-    go false f rec = let h : p ≡ q = cc in omega arith
-
-stands : (o : Option (List Item)) (l : List Mark) (p q : ℕ) → problem p (on_step o (λ s. trace s l)) ≡ Some (deep q) → (s : List Item) × (o ≡ Some s)
-stands None l p q e = absurd (cc)
-stands (Some s) l p q e = (s, refl)
-
-goes_on : (s : List Item) (l : List Mark) (p q : ℕ) → problem p (count (held s) (trace s l)) ≡ Some (deep q) → p < q → problem (p + 1) (trace s l) ≡ Some (deep q)
-goes_on s l p q e h = go (nat_le (held s) limit) e
-  where
-    go : (b : Bool) → (if b then problem (p + 1) (trace s l) else Some (deep p)) ≡ Some (deep q) → problem (p + 1) (trace s l) ≡ Some (deep q)
-    go true f = f
-    go false f = absurd (let k : p ≡ q = cc in omega arith)
-
-no_deep_end : (b : Bool) (p q : ℕ) → problem p (if b then fine else stuck) ≡ Some (deep q) → ⊥
-no_deep_end true p q e = absurd (cc)
-no_deep_end false p q e = absurd (cc)
-
-completed_deep : (l : List Mark) (s : List Item) (p k : ℕ) → Good s → problem p (trace s l) ≡ Some (deep (p + k)) → Completed s (take (suc k) l)
-completed_deep [] s p k g e = absurd (no_deep_end (item.may_end s) p (p + k) e)
-completed_deep (t ∷ l) s p zero g e =
-    let r = stands (step s t.kind (number_first l)) l p (p + 0) e in
-    let f = finishes r.0 (step_good s r.0 t.kind (number_first l) g r.1) in
-    (finish r.0, held r.0 ∷ f.0, finish_clean r.0, ap (λ (o : Option (List Item)). on_step o (λ s. trace s (finish r.0))) (look s r.0 t.kind (number_first l) r.1) ∙ ap (count (held r.0)) f.1)
-completed_deep (t ∷ []) s p (suc k) g e =
-    let r = stands (step s t.kind false) [] p (p + suc k) e in
-    let a : problem p (count (held r.0) (trace r.0 [])) ≡ Some (deep (p + suc k)) = ap (λ (o : Option (List Item)). problem p (on_step o (λ s. trace s []))) (sym r.1) ∙ e in
-    absurd (no_deep_end (item.may_end r.0) (p + 1) (p + suc k) (goes_on r.0 [] p (p + suc k) a (omega arith)))
-completed_deep (t ∷ u ∷ l) s p (suc k) g e =
-    let r = stands (step s t.kind (number_first (u ∷ l))) (u ∷ l) p (p + suc k) e in
-    let a : problem p (count (held r.0) (trace r.0 (u ∷ l))) ≡ Some (deep (p + suc k)) = ap (λ (o : Option (List Item)). problem p (on_step o (λ s. trace s (u ∷ l)))) (sym r.1) ∙ e in
-    let same : p + suc k ≡ p + 1 + k = omega arith in
-    let f = completed_deep (u ∷ l) r.0 (p + 1) k (step_good s r.0 t.kind (number_first (u ∷ l)) g r.1) (goes_on r.0 (u ∷ l) p (p + suc k) a (omega arith) ∙ ap (λ (q : ℕ). Some (deep q)) same) in
-    (f.0, held r.0 ∷ f.1, f.2, ap (λ (o : Option (List Item)). on_step o (λ s. trace s (take (suc k) (u ∷ l) ++ f.0))) r.1 ∙ ap (count (held r.0)) f.3)
-
-viable_with : (l : List Token) (p : ℕ) → problem 0 (trace whole (map mark l)) ≡ Some (deep p) → IsViable (take (suc p) l)
-viable_with l p e =
-    let none : 0 + p ≡ p = omega arith in
-    let f = completed_deep (map mark l) whole 0 p whole_good (e ∙ ap (λ (q : ℕ). Some (deep q)) (sym none)) in
-    let w = spelled (take (suc p) (map mark l) ++ f.0) f.1 (both_clean (take (suc p) (map mark l)) f.0 (take_clean (suc p) (map mark l) (marks_clean l)) f.2) f.3 in
-    (w.0, w.1, f.0, w.2 ∙ ap (λ (x : List Mark). x ++ f.0) (sym (take_map (suc p) l)))
-
-ruled : (l : List Token) (f : Fault) → FailsWholeBy whole l 0 f → Rules l f
-ruled l (place.Unexpected p) a = record { before = viable_before l p a.there; with_it = λ h v. not_viable l p a.there h v; together = λ f s. not_spelled l p f a.there s }
-ruled l (place.TooNested p) a = viable_with l p a.there
-ruled l place.Memory a = tt
-
-pub first_fault : (l m : List Token) (end : ℕ) (f : Fault) (g : ParseFault) → m ≡ l → g ≡ located_at l end f → FailsWholeBy whole m 0 f → IsFirstFault l end g
-first_fault l m end f g e h a =
-    let b : FailsWholeBy whole l 0 f = subst (λ (x : List Token). FailsWholeBy whole x 0 f) e a in
-    record { fault = f; located = h; first = b; rules = ruled l f b }

@@ -1,5 +1,5 @@
 -- Where tokens have a fault.
-use Rattle.std.specs.Prelude.{◌≡◌, ℕ, suc, ◌<◌, List, length, take}
+use Rattle.std.specs.Prelude.{◌≡◌, ℕ, zero, suc, ◌<◌, ◌≤◌, true, false, List, [], ◌∷◌, ◌++◌, length, take, map}
 use Rattle.dom_lexer.specs.declared.token.Token.{Token}
 use Rattle.dom_ast.specs.Form.{ProgramForm}
 use Rattle.dom_parser.specs.declared.faults.Fault.{Fault}
@@ -8,9 +8,9 @@ use Rattle.dom_parser.specs.declared.faults.ParseFault.{ParseFault}
 use Rattle.dom_parser.specs.declared.faults.ParseFault.TheVariants as answer
 use Rattle.dom_parser.specs.declared.kinds.Kind.{Kind}
 use Rattle.dom_parser.specs.declared.kinds.Kind.TheVariants as kind
-use Rattle.dom_parser.specs.Tokens.{stands, offset_at}
-use Rattle.dom_parser.specs.Grammar.{IsSpelled, IsViable, Spells}
-use Rattle.dom_parser.specs.Following.{whole}
+use Rattle.dom_parser.specs.Tokens.{Mark, mark, stands, offset_at}
+use Rattle.dom_parser.specs.Grammar.{Program, IsProgram, program_tokens, program_opens, IsSpelled, IsViable, Spells}
+use Rattle.dom_parser.specs.Following.{ahead, is_minus, number_first, whole}
 use Rattle.dom_parser.specs.HeadReads.{FailsWholeBy}
 
 -- the fault at a token of a kind and an offset, in a text of `end` bytes
@@ -31,10 +31,31 @@ pub record RulesOut (l : List Token) (p : ℕ) : Type 0 where
   pub with_it : p < length l → IsViable (take (suc p) l) → ⊥
   pub together : (f : ProgramForm) → Spells f l → ⊥
 
--- what a fault at a token says of the fronts of programs; a token that opens one construct too many may stand there
+-- the tokens up to p and with the one there are a front of this program; where a "-" stands there, no number comes next in it
+pub record BeginsWith (l : List Token) (p : ℕ) (way : Program) : Type 0 where
+  pub is_program : IsProgram way
+  pub rest : List Mark
+  pub front : program_tokens way ≡ map mark (take (suc p) l) ++ rest
+  pub operator : is_minus (stands l p) ≡ true → number_first rest ≡ false
+
+-- of such numbers the first over 64 stands at place p, and is 65
+abbrev pub IsFirstOver : ℕ → List ℕ → Type 0
+IsFirstOver p [] = ⊥
+IsFirstOver zero (n ∷ ns) = n ≡ 65
+IsFirstOver (suc p) (n ∷ ns) = (n ≤ 64) × IsFirstOver p ns
+
+-- The token at p is the first that opens a construct while 64 are open: some program begins with the tokens up to it, and in
+-- each that does, 65 are open there. A "-" opens one where no number comes next.
+pub record OpensTooMany (l : List Token) (p : ℕ) : Type 0 where
+  pub there : p < length l
+  pub operator : is_minus (stands l p) ≡ true → ahead l p ≡ false
+  pub some : (way : Program) × BeginsWith l p way
+  pub every : (way : Program) → BeginsWith l p way → IsFirstOver p (program_opens way)
+
+-- what a fault at a token says of the fronts of programs
 abbrev pub Rules : List Token → Fault → Type 0
 Rules l (place.Unexpected p) = RulesOut l p
-Rules l (place.TooNested p) = IsViable (take (suc p) l)
+Rules l (place.TooNested p) = OpensTooMany l p
 Rules l place.Memory = Unit {0}
 
 -- the fault is the first token that may not follow, or that opens one construct too many

@@ -1,6 +1,6 @@
 use Rattle.dom_ast.specs.Form.{program_form}
 use Rattle.dom_parser.proofs.Sizes.{few_nodes, few_nested}
-use Rattle.dom_parser.proofs.Viable.{first_fault}
+use Rattle.dom_parser.proofs.TooMany.{first_fault}
 use Rattle.dom_parser.proofs.Whole.{parsed, no_program}
 use Rattle.dom_parser.proofs.parser.parse.Goals as goal
 
