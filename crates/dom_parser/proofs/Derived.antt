@@ -18,10 +18,10 @@ use Rattle.dom_parser.specs.declared.kinds.Lead.{Lead}
 use Rattle.dom_parser.specs.declared.kinds.Lead.TheVariants as lead
 use Rattle.dom_parser.specs.declared.kinds.Declared.{Declared}
 use Rattle.dom_parser.specs.declared.kinds.Declared.TheVariants as declared
-use Rattle.dom_parser.specs.Tokens.{Mark, name_text, is_fixed, is_name, number_of, operator_of, unary_of}
+use Rattle.dom_parser.specs.Tokens.{Mark, name_text, is_fixed, is_name, number_of, operator_of, unary_of, is_minus, number_first}
 use Rattle.dom_parser.specs.Grammar.{top, sign, name_mark, number_mark, bin_mark, un_mark, un_kind, Way, a_number, a_negated, a_word, a_field, an_index, a_call, in_parens, operated, level_of, More, stop, and_then, if_so, Args, no_args, some_args, MoreArgs, last_arg, next_arg, MakesNode, IsAt, IsAfter, AreArgs, AreMoreArgs, tokens, more_tokens, arg_tokens, more_arg_tokens, Goal, goal_word, goal_field, goal_index, IsGoal, goal_tokens, Assign, assigned, IsAssign, assign_tokens, Stmts, no_more, then_stmt, Stmt, an_assign, an_if, Body, body_block, body_assign, Else, no_else, else_block, else_stmt, AreStmts, IsStmt, IsBody, IsElse, stmts_tokens, stmt_tokens, body_tokens, else_tokens, Constant, plain, negative, constant_tokens, Value, a_constant, a_name, value_tokens, Start, no_start, bare, braced, start_tokens, Size, no_size, number_size, name_size, size_tokens, Decl, a_define, a_global, decl_tokens, Decls, no_decls, then_decl, decls_tokens, Fields, no_fields, a_field_of, field_tokens, Structure, a_struct, struct_tokens, Guard, no_guard, a_guard, IsGuard, guard_tokens, Transaction, a_transaction, IsTransaction, transaction_tokens, Transactions, no_others, another, AreTransactions, transactions_tokens, Program, program, IsProgram, program_tokens}
 use Rattle.dom_parser.specs.Following as item
-use Rattle.dom_parser.specs.Following.{Item, begin_of, begin_row, expand, may_skip, resume, step, held, Trace, fine, stuck, count, on_step, number_first, trace, when, then_row}
+use Rattle.dom_parser.specs.Following.{Item, begin_of, begin_row, expand, may_skip, resume, step, held, Trace, fine, stuck, count, on_step, trace, when, then_row}
 use Rattle.dom_parser.proofs.KnownKinds.{kind_fixed, kind_name, kind_number, kind_minus, kind_unary, kind_operator, begin_paren, begin_number, begin_name, suffix_dot, suffix_bracket, suffix_paren, lead_block, lead_if, lead_assign, declared_define, declared_global}
 use Rattle.dom_parser.proofs.Traces.{counted}
 
@@ -323,7 +323,7 @@ from_condition t row ts c r d =
 
 -- heads
 
-from_number : (t : Mark) (o : Option ℕ) (b : Bool) (row : List Item) (ts : List Mark) → Clean t → number_of t.kind ≡ o → item.is_minus t.kind ≡ b → item.constant_row o b ≡ Some row → OfRow row ts → Of item.constant (t ∷ ts)
+from_number : (t : Mark) (o : Option ℕ) (b : Bool) (row : List Item) (ts : List Mark) → Clean t → number_of t.kind ≡ o → is_minus t.kind ≡ b → item.constant_row o b ≡ Some row → OfRow row ts → Of item.constant (t ∷ ts)
 from_number t (Some w) b row ts c e m r d =
     let f = same_row [] row ts r d in
     (plain t.place w, ap (λ (x : Mark). x ∷ ts) (as_mark t (kind.Number w) c (kind_number t.kind w e)) ∙ ap (λ (x : List Mark). number_mark t.place w ∷ x) f)
@@ -332,13 +332,13 @@ from_number t None b row ts c e m r d =
     let f = row1 item.a_number ts s.1 in
     (negative t.place f.0 f.1, ap (λ (x : Mark). x ∷ ts) (as_mark t (kind.Operator bin.Sub) c (kind_minus t.kind (m ∙ s.0))) ∙ ap (λ (x : List Mark). bin_mark bin.Sub t.place ∷ x) f.2)
 
-from_value : (t : Mark) (b : Bool) (row : List Item) (ts : List Mark) → Clean t → is_name t.kind ≡ b → (if b then Some [] else item.constant_row (number_of t.kind) (item.is_minus t.kind)) ≡ Some row → OfRow row ts → Of item.value (t ∷ ts)
+from_value : (t : Mark) (b : Bool) (row : List Item) (ts : List Mark) → Clean t → is_name t.kind ≡ b → (if b then Some [] else item.constant_row (number_of t.kind) (is_minus t.kind)) ≡ Some row → OfRow row ts → Of item.value (t ∷ ts)
 from_value t true row ts c e r d =
     let f = same_row [] row ts r d in
     (a_name t.place t.text, ap (λ (x : Mark). x ∷ ts) (as_mark t kind.Name c (kind_name t.kind e)) ∙ ap (λ (x : List Mark). name_mark t.place t.text ∷ x) f)
-from_value t false row ts c e r d = let f = from_number t (number_of t.kind) (item.is_minus t.kind) row ts c refl refl r d in (a_constant f.0, f.1)
+from_value t false row ts c e r d = let f = from_number t (number_of t.kind) (is_minus t.kind) row ts c refl refl r d in (a_constant f.0, f.1)
 
-from_start : (t : Mark) (b : Bool) (row : List Item) (ts : List Mark) → Clean t → is_fixed fixed.OpenBrace t.kind ≡ b → (if b then Some (item.value ∷ item.close fixed.CloseBrace ∷ []) else (if is_name t.kind then Some [] else item.constant_row (number_of t.kind) (item.is_minus t.kind))) ≡ Some row → OfRow row ts → Of item.start (t ∷ ts)
+from_start : (t : Mark) (b : Bool) (row : List Item) (ts : List Mark) → Clean t → is_fixed fixed.OpenBrace t.kind ≡ b → (if b then Some (item.value ∷ item.close fixed.CloseBrace ∷ []) else (if is_name t.kind then Some [] else item.constant_row (number_of t.kind) (is_minus t.kind))) ≡ Some row → OfRow row ts → Of item.start (t ∷ ts)
 from_start t true row ts c e r d = λ x.
     let f = row2 item.value (item.close fixed.CloseBrace) ts (same_row (item.value ∷ item.close fixed.CloseBrace ∷ []) row ts r d) in
     (braced x t.place f.3.0 f.4.0, ap (λ (y : Mark). sign fixed.Assign x ∷ y ∷ ts) (as_mark t (kind.Fixed fixed.OpenBrace) c (kind_fixed fixed.OpenBrace t.kind e)) ∙ ap (λ (y : List Mark). sign fixed.Assign x ∷ sign fixed.OpenBrace t.place ∷ y) (f.2 ∙ ap (λ (y : List Mark). y ++ f.1) f.3.1 ∙ ap (λ (y : List Mark). value_tokens f.3.0 ++ y) f.4.1))
@@ -454,7 +454,7 @@ back item.else_part t n row ts c h r d = from_else_part t row ts c r d
 back item.else_rest t n row ts c h r d = from_else t (item.lead_of t.kind) row ts c refl r d
 back item.decl t n row ts c h r d = from_decl t (item.declared_of t.kind) row ts c refl r d
 back item.decls t n row ts c h r d = from_decls t row ts c r d
-back item.constant t n row ts c h r d = from_number t (number_of t.kind) (item.is_minus t.kind) row ts c refl refl r d
+back item.constant t n row ts c h r d = from_number t (number_of t.kind) (is_minus t.kind) row ts c refl refl r d
 back item.value t n row ts c h r d = from_value t (is_name t.kind) row ts c refl r d
 back item.start t n row ts c h r d = from_start t (is_fixed fixed.OpenBrace t.kind) row ts c refl r d
 back item.start_part t n row ts c h r d = from_start_part t row ts c r d

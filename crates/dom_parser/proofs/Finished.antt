@@ -15,10 +15,10 @@ use Rattle.dom_parser.specs.declared.kinds.Lead.{Lead}
 use Rattle.dom_parser.specs.declared.kinds.Lead.TheVariants as lead
 use Rattle.dom_parser.specs.declared.kinds.Declared.{Declared}
 use Rattle.dom_parser.specs.declared.kinds.Declared.TheVariants as declared
-use Rattle.dom_parser.specs.Tokens.{Mark, fixed_number, is_fixed, is_name, number_of, operator_of, unary_of}
+use Rattle.dom_parser.specs.Tokens.{Mark, fixed_number, is_fixed, is_name, number_of, operator_of, unary_of, is_minus, number_first}
 use Rattle.dom_parser.specs.Grammar.{top, sign, name_mark, number_mark}
 use Rattle.dom_parser.specs.Following as item
-use Rattle.dom_parser.specs.Following.{Item, expand, may_skip, resume, step, held, Trace, fine, stuck, count, on_step, number_first, trace, when, then_row, problem, Problem, bad, deep, limit}
+use Rattle.dom_parser.specs.Following.{Item, expand, may_skip, resume, step, held, Trace, fine, stuck, count, on_step, trace, when, then_row, problem, Problem, bad, deep, limit}
 use Rattle.dom_parser.proofs.Traces.{counted, counted_append, Refused, Ends, ends_close, weaker, passes, ended_passes, goes}
 
 -- the least that an item stands for
@@ -311,9 +311,9 @@ row_good item.else_part k n s row h g e = kept_as s (item.else_rest ∷ []) row 
 row_good item.else_rest k n s row h g e = else_good (item.lead_of k) s row h g e
 row_good item.decl k n s row h g e = decl_good (item.declared_of k) s row g e
 row_good item.decls k n s row h g e = decls_good (item.declared_of k) s row h g e
-row_good item.constant k n s row h g e = constant_good (number_of k) (item.is_minus k) s row g e
-row_good item.value k n s row h g e = value_good (is_name k) (number_of k) (item.is_minus k) s row g e
-row_good item.start k n s row h g e = start_good (is_fixed fixed.OpenBrace k) (is_name k) (number_of k) (item.is_minus k) s row g e
+row_good item.constant k n s row h g e = constant_good (number_of k) (is_minus k) s row g e
+row_good item.value k n s row h g e = value_good (is_name k) (number_of k) (is_minus k) s row g e
+row_good item.start k n s row h g e = start_good (is_fixed fixed.OpenBrace k) (is_name k) (number_of k) (is_minus k) s row g e
 row_good item.start_part k n s row h g e = kept_as s (item.start ∷ []) row (when_row (is_fixed fixed.Assign k) _ row e) (tt, g)
 row_good item.size k n s row h g e = size_good (is_name k) (number_of k) s row g e
 row_good item.size_part k n s row h g e = kept_as s (item.size ∷ item.close fixed.CloseBracket ∷ []) row (when_row (is_fixed fixed.OpenBracket k) _ row e) (tt, (tt, g))

@@ -7,6 +7,7 @@ pub mod HeadParts
 pub mod Kept
 pub mod KnownKinds
 pub mod One
+pub mod OneFault
 pub mod OneProgram
 pub mod Programs
 pub mod Sizes

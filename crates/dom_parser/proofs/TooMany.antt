@@ -10,10 +10,10 @@ use Rattle.dom_parser.specs.declared.faults.ParseFault.{ParseFault}
 use Rattle.dom_parser.specs.declared.kinds.Kind.{Kind}
 use Rattle.dom_parser.specs.declared.kinds.Kind.TheVariants as kind
 use Rattle.dom_parser.specs.Tokens as Tokens
-use Rattle.dom_parser.specs.Tokens.{Mark, mark}
+use Rattle.dom_parser.specs.Tokens.{Mark, mark, is_minus, is_number, number_first}
 use Rattle.dom_parser.specs.Grammar.{Program, program_opens}
 use Rattle.dom_parser.specs.Following as item
-use Rattle.dom_parser.specs.Following.{Item, step, held, Trace, fine, stuck, count, on_step, is_minus, is_number, number_first, trace, problem, deep, limit, whole}
+use Rattle.dom_parser.specs.Following.{Item, step, held, Trace, fine, stuck, count, on_step, trace, problem, bad, deep, limit, whole}
 use Rattle.dom_parser.specs.HeadReads.{FailsWholeBy}
 use Rattle.dom_parser.specs.Faults.{located_at, BeginsWith, IsFirstOver, OpensTooMany, Rules, IsFirstFault}
 use Rattle.dom_parser.proofs.Traces.{counted}
@@ -22,7 +22,7 @@ use Rattle.dom_parser.proofs.Kept.{take_map, not_viable, not_spelled}
 use Rattle.dom_parser.proofs.Derived.{AllClean, spelled}
 use Rattle.dom_parser.proofs.Finished.{finish, Good, finishes, step_good, whole_good}
 use Rattle.dom_parser.proofs.Growth.{one_more, no_more, step_same}
-use Rattle.dom_parser.proofs.Viable.{look, both_clean, finish_clean, marks_clean, take_clean, viable_before}
+use Rattle.dom_parser.proofs.Viable.{look, both_clean, finish_clean, marks_clean, no_end, take_clean, viable_before}
 
 -- a test of what stands at a place
 abbrev at_place : (Kind → Bool) → List Mark → ℕ → Bool
@@ -154,6 +154,10 @@ crosses (t ∷ u ∷ l) s p (suc k) h e =
       every = λ rest ns x c. first_later k (held r.0) (trace r.0 (take (suc k) (u ∷ l) ++ rest)) ns (sym (ap (λ (z : Option (List Item)). on_step z (λ s. trace s (take (suc k) (u ∷ l) ++ rest))) r.1) ∙ c) n.0 (λ ms d. f.every rest ms x d);
     }
 
+-- a program that begins so, as it is read
+read_so : (l : List Token) (p : ℕ) (way : Program) (b : BeginsWith l p way) → trace whole (take (suc p) (map mark l) ++ b.rest) ≡ counted (program_opens way) fine
+read_so l p way b = ap (trace whole) (ap (λ (x : List Mark). x ++ b.rest) (sym (take_map (suc p) l)) ∙ sym b.front) ∙ program_traced way b.is_program
+
 opens : (l : List Token) (p : ℕ) → problem 0 (trace whole (map mark l)) ≡ Some (deep p) → OpensTooMany l p
 opens l p e =
     let none : 0 + p ≡ p = omega arith in
@@ -169,17 +173,77 @@ opens l p e =
       there = omega arith;
       operator = λ m. ap (λ (q : ℕ). is_number (Tokens.stands l q)) one ∙ sym (at_stands is_number l (suc p)) ∙ c.operator (minus ∙ m);
       some = (w.0, record { is_program = w.1; rest = f.0; front = w.2 ∙ ap (λ (x : List Mark). x ++ f.0) (sym (take_map (suc p) l)); operator = λ m. f.4 (minus ∙ m) });
-      every = λ way b. c.every b.rest (program_opens way) (λ m. b.operator (sym minus ∙ m)) (ap (trace whole) (ap (λ (x : List Mark). x ++ b.rest) (sym (take_map (suc p) l)) ∙ sym b.front) ∙ program_traced way b.is_program);
+      every = λ way b. c.every b.rest (program_opens way) (λ m. b.operator (sym minus ∙ m)) (read_so l p way b);
     }
+
+-- where a token may not stand, none before it opens one too many
+
+stands_before : (o : Option (List Item)) (l : List Mark) (p q : ℕ) → problem p (on_step o (λ s. trace s l)) ≡ Some (bad q) → p < q → (s : List Item) × (o ≡ Some s) × (held s ≤ limit) × (problem (p + 1) (trace s l) ≡ Some (bad q))
+stands_before None l p q e h = absurd (let f : p ≡ q = cc in omega arith)
+stands_before (Some s) l p q e h = go (nat_le (held s) limit) refl e
+  where
+    go : (b : Bool) → nat_le (held s) limit ≡ b → (if b then problem (p + 1) (trace s l) else Some (deep p)) ≡ Some (bad q) → (r : List Item) × (Some s ≡ Some r) × (held r ≤ limit) × (problem (p + 1) (trace r l) ≡ Some (bad q))
+    go true x f = (s, refl, leb-true (held s) limit x, f)
+    go false x f = absurd (cc)
+
+bad_within : (l : List Mark) (s : List Item) (p k : ℕ) → problem p (trace s l) ≡ Some (bad (p + k)) → k ≤ length l
+bad_within l s p zero e = omega arith
+bad_within [] s p (suc k) e = absurd (no_end (item.may_end s) p k e)
+bad_within (t ∷ l) s p (suc k) e =
+    let r = stands_before (step s t.kind (number_first l)) l p (p + suc k) e (omega arith) in
+    let same : p + suc k ≡ p + 1 + k = omega arith in
+    let f = bad_within l r.0 (p + 1) k (r.3 ∙ ap (λ (q : ℕ). Some (bad q)) same) in
+    omega arith
+
+not_first : (n : ℕ) (t : Trace) (ns : List ℕ) → count n t ≡ counted ns fine → n ≤ 64 → IsFirstOver zero ns → ⊥
+not_first n t [] e h x = x
+not_first n t (m ∷ ns) e h x = absurd (let f : n ≡ m = cc in let g : m ≡ 65 = x in omega arith)
+
+not_later : (k n : ℕ) (t : Trace) (ns : List ℕ) → count n t ≡ counted ns fine → ((ms : List ℕ) → t ≡ counted ms fine → IsFirstOver k ms → ⊥) → IsFirstOver (suc k) ns → ⊥
+not_later k n t [] e rec x = x
+not_later k n t (m ∷ ns) e rec x = let g : t ≡ counted ns fine = cc in rec ns g x.1
+
+not_over : (l : List Mark) (s : List Item) (p k j : ℕ) → problem p (trace s l) ≡ Some (bad (p + j)) → k < j → (rest : List Mark) (ns : List ℕ) → (at_place is_minus l k ≡ true → at_place is_number l (suc k) ≡ number_first rest) → trace s (take (suc k) l ++ rest) ≡ counted ns fine → IsFirstOver k ns → ⊥
+not_over l s p k zero e h rest ns x c i = absurd (omega arith)
+not_over [] s p k (suc j) e h rest ns x c i = no_end (item.may_end s) p j e
+not_over (t ∷ l) s p zero (suc j) e h rest ns x c i =
+    let r = stands_before (step s t.kind (number_first l)) l p (p + suc j) e (omega arith) in
+    let n = same_here s r.0 t.kind (number_first l) (number_first rest) (λ m. sym (at_first l) ∙ x m) r.1 in
+    not_first (held r.0) (trace r.0 rest) ns (sym (ap (λ (z : Option (List Item)). on_step z (λ s. trace s rest)) n) ∙ c) r.2 i
+not_over (t ∷ []) s p (suc k) (suc zero) e h rest ns x c i = absurd (omega arith)
+not_over (t ∷ []) s p (suc k) (suc (suc j)) e h rest ns x c i =
+    let r = stands_before (step s t.kind false) [] p (p + suc (suc j)) e (omega arith) in
+    let same : p + suc (suc j) ≡ p + 1 + suc j = omega arith in
+    no_end (item.may_end r.0) (p + 1) j (r.3 ∙ ap (λ (q : ℕ). Some (bad q)) same)
+not_over (t ∷ u ∷ l) s p (suc k) (suc j) e h rest ns x c i =
+    let r = stands_before (step s t.kind (number_first (u ∷ l))) (u ∷ l) p (p + suc j) e (omega arith) in
+    let same : p + suc j ≡ p + 1 + j = omega arith in
+    not_later k (held r.0) (trace r.0 (take (suc k) (u ∷ l) ++ rest)) ns (sym (ap (λ (z : Option (List Item)). on_step z (λ s. trace s (take (suc k) (u ∷ l) ++ rest))) r.1) ∙ c) (λ ms d y. not_over (u ∷ l) r.0 (p + 1) k j (r.3 ∙ ap (λ (q : ℕ). Some (bad q)) same) (omega arith) rest ms x d y) i
+
+none_before : (l : List Token) (p : ℕ) → problem 0 (trace whole (map mark l)) ≡ Some (bad p) → (q : ℕ) → q < p → OpensTooMany l q → ⊥
+none_before l p e q h o =
+    let none : 0 + p ≡ p = omega arith in
+    let one : q + 1 ≡ suc q = omega arith in
+    let way = o.some.0 in let b = o.some.1 in
+    let minus = at_stands is_minus l q in
+    let ahead : (is_minus (Tokens.stands l q) ≡ true) → is_number (Tokens.stands l (suc q)) ≡ false = λ m. ap (λ (y : ℕ). is_number (Tokens.stands l y)) (sym one) ∙ o.operator m in
+    not_over (map mark l) whole 0 q p (e ∙ ap (λ (y : ℕ). Some (bad y)) (sym none)) h b.rest (program_opens way) (λ m. at_stands is_number l (suc q) ∙ ahead (sym minus ∙ m) ∙ sym (b.operator (sym minus ∙ m))) (read_so l q way b) (o.every way b)
+
+there_or_end : (l : List Token) (p : ℕ) → problem 0 (trace whole (map mark l)) ≡ Some (bad p) → p ≤ length l
+there_or_end l p e =
+    let none : 0 + p ≡ p = omega arith in
+    let size = length-map l mark in
+    let f = bad_within (map mark l) whole 0 p (e ∙ ap (λ (y : ℕ). Some (bad y)) (sym none)) in
+    omega arith
 
 -- each fault of the parser
 
 ruled : (l : List Token) (f : Fault) → FailsWholeBy whole l 0 f → Rules l f
-ruled l (place.Unexpected p) a = record { before = viable_before l p a.there; with_it = λ h v. not_viable l p a.there h v; together = λ f s. not_spelled l p f a.there s }
+ruled l (place.Unexpected p) a = record { there = there_or_end l p a.there; before = viable_before l p a.there; within = λ q h o. none_before l p a.there q h o; with_it = λ h v. not_viable l p a.there h v; together = λ f s. not_spelled l p f a.there s }
 ruled l (place.TooNested p) a = opens l p a.there
 ruled l place.Memory a = tt
 
 pub first_fault : (l m : List Token) (end : ℕ) (f : Fault) (g : ParseFault) → m ≡ l → g ≡ located_at l end f → FailsWholeBy whole m 0 f → IsFirstFault l end g
 first_fault l m end f g e h a =
     let b : FailsWholeBy whole l 0 f = subst (λ (x : List Token). FailsWholeBy whole x 0 f) e a in
-    record { fault = f; located = h; first = b; rules = ruled l f b }
+    record { fault = f; located = h; rules = ruled l f b }

@@ -13,10 +13,10 @@ use Rattle.dom_parser.specs.declared.kinds.Kind.{Kind}
 use Rattle.dom_parser.specs.declared.kinds.Kind.TheVariants as kind
 use Rattle.dom_parser.specs.declared.kinds.Begin.{Begin}
 use Rattle.dom_parser.specs.declared.kinds.Fixed.TheVariants as fixed
-use Rattle.dom_parser.specs.Tokens.{Mark, mark, name_text, token_kind, word_text, is_fixed, unary_of}
+use Rattle.dom_parser.specs.Tokens.{Mark, mark, name_text, token_kind, word_text, is_fixed, unary_of, number_first}
 use Rattle.dom_parser.specs.Grammar.{top, IsViable}
 use Rattle.dom_parser.specs.Following as item
-use Rattle.dom_parser.specs.Following.{Item, expand, may_skip, resume, step, held, Trace, fine, stuck, count, on_step, number_first, trace, then_row, problem, Problem, bad, deep, limit, whole}
+use Rattle.dom_parser.specs.Following.{Item, expand, may_skip, resume, step, held, Trace, fine, stuck, count, on_step, trace, then_row, problem, Problem, bad, deep, limit, whole}
 use Rattle.dom_parser.proofs.Traces.{counted}
 use Rattle.dom_parser.proofs.Kept.{expand_any, at_step, take_map, not_viable, not_spelled}
 use Rattle.dom_parser.proofs.Derived.{AllClean, spelled}
@@ -170,7 +170,7 @@ Completed s front = (tail : List Mark) × (ns : List ℕ) × AllClean tail × (t
 at_once : (s : List Item) → Good s → Completed s []
 at_once s g = let f = finishes s g in (finish s, f.0, finish_clean s, f.1)
 
-no_end : (b : Bool) (p k : ℕ) → problem p (if b then fine else stuck) ≡ Some (bad (p + suc k)) → ⊥
+pub no_end : (b : Bool) (p k : ℕ) → problem p (if b then fine else stuck) ≡ Some (bad (p + suc k)) → ⊥
 no_end true p k e = absurd (cc)
 no_end false p k e = absurd (let f : p ≡ p + suc k = cc in omega arith)
 

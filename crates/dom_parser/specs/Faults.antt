@@ -8,10 +8,8 @@ use Rattle.dom_parser.specs.declared.faults.ParseFault.{ParseFault}
 use Rattle.dom_parser.specs.declared.faults.ParseFault.TheVariants as answer
 use Rattle.dom_parser.specs.declared.kinds.Kind.{Kind}
 use Rattle.dom_parser.specs.declared.kinds.Kind.TheVariants as kind
-use Rattle.dom_parser.specs.Tokens.{Mark, mark, stands, offset_at}
+use Rattle.dom_parser.specs.Tokens.{Mark, mark, stands, offset_at, ahead, is_minus, number_first}
 use Rattle.dom_parser.specs.Grammar.{Program, IsProgram, program_tokens, program_opens, IsSpelled, IsViable, Spells}
-use Rattle.dom_parser.specs.Following.{ahead, is_minus, number_first, whole}
-use Rattle.dom_parser.specs.HeadReads.{FailsWholeBy}
 
 -- the fault at a token of a kind and an offset, in a text of `end` bytes
 abbrev pub unexpected_at : Kind → ℕ → ℕ → ParseFault
@@ -25,13 +23,7 @@ located_at l end (place.Unexpected p) = unexpected_at (stands l p) (offset_at l 
 located_at l end (place.TooNested p) = answer.TooNested (offset_at l p)
 located_at l end place.Memory = answer.Memory
 
--- the tokens before p are a front of a program, with the one at p they are not, and together they spell none
-pub record RulesOut (l : List Token) (p : ℕ) : Type 0 where
-  pub before : IsViable (take p l)
-  pub with_it : p < length l → IsViable (take (suc p) l) → ⊥
-  pub together : (f : ProgramForm) → Spells f l → ⊥
-
--- the tokens up to p and with the one there are a front of this program; where a "-" stands there, no number comes next in it
+-- the program begins with the tokens up to the one at p; where that is a "-", no number comes next in the program
 pub record BeginsWith (l : List Token) (p : ℕ) (way : Program) : Type 0 where
   pub is_program : IsProgram way
   pub rest : List Mark
@@ -45,12 +37,21 @@ IsFirstOver zero (n ∷ ns) = n ≡ 65
 IsFirstOver (suc p) (n ∷ ns) = (n ≤ 64) × IsFirstOver p ns
 
 -- The token at p is the first that opens a construct while 64 are open: some program begins with the tokens up to it, and in
--- each that does, 65 are open there. A "-" opens one where no number comes next.
+-- each that does, 65 constructs are open there and no more than 64 before. A "-" opens one only where no number comes next.
 pub record OpensTooMany (l : List Token) (p : ℕ) : Type 0 where
   pub there : p < length l
   pub operator : is_minus (stands l p) ≡ true → ahead l p ≡ false
   pub some : (way : Program) × BeginsWith l p way
   pub every : (way : Program) → BeginsWith l p way → IsFirstOver p (program_opens way)
+
+-- The tokens before p are a front of a program, and none of them opens one construct too many. With the one at p they are no
+-- front, and all tokens together spell no program.
+pub record RulesOut (l : List Token) (p : ℕ) : Type 0 where
+  pub there : p ≤ length l
+  pub before : IsViable (take p l)
+  pub within : (q : ℕ) → q < p → OpensTooMany l q → ⊥
+  pub with_it : p < length l → IsViable (take (suc p) l) → ⊥
+  pub together : (f : ProgramForm) → Spells f l → ⊥
 
 -- what a fault at a token says of the fronts of programs
 abbrev pub Rules : List Token → Fault → Type 0
@@ -62,7 +63,6 @@ Rules l place.Memory = Unit {0}
 pub record IsFirstFault (l : List Token) (end : ℕ) (f : ParseFault) : Type 0 where
   pub fault : Fault
   pub located : f ≡ located_at l end fault
-  pub first : FailsWholeBy whole l 0 fault
   pub rules : Rules l fault
 
 -- the tokens spell no program within the limit, unless memory was wanting

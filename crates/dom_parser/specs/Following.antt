@@ -17,7 +17,7 @@ use Rattle.dom_parser.specs.declared.kinds.Lead.{Lead}
 use Rattle.dom_parser.specs.declared.kinds.Lead.TheVariants as lead
 use Rattle.dom_parser.specs.declared.kinds.Declared.{Declared}
 use Rattle.dom_parser.specs.declared.kinds.Declared.TheVariants as declared
-use Rattle.dom_parser.specs.Tokens.{Mark, rest, stands, is_fixed, is_name, number_of, operator_of, unary_of}
+use Rattle.dom_parser.specs.Tokens.{Mark, rest, is_fixed, is_name, is_minus, number_of, number_first, operator_of, unary_of}
 use Rattle.dom_parser.specs.Grammar.{top}
 
 -- what may begin an operand that has no operator before it
@@ -67,14 +67,6 @@ abbrev pub is_neg : UnOp → Bool
 is_neg un.Neg = true
 is_neg un.Inv = false
 is_neg un.Not = false
-
-abbrev pub is_minus : Kind → Bool
-is_minus (kind.Operator bin.Sub) = true
-is_minus _ = false
-
-abbrev pub is_number : Kind → Bool
-is_number (kind.Number n) = true
-is_number _ = false
 
 -- what may be still to come; `close` and `args` end with a bracket that closes
 pub data Item : Type 0 where
@@ -298,10 +290,6 @@ abbrev pub on_step : Option (List Item) → (List Item → Trace) → Trace
 on_step None go = stuck
 on_step (Some s) go = count (held s) (go s)
 
-abbrev pub number_first : List Mark → Bool
-number_first [] = false
-number_first (t ∷ l) = is_number t.kind
-
 abbrev pub trace : List Item → List Mark → Trace
 trace s [] = if may_end s then fine else stuck
 trace s (t ∷ l) = on_step (step s t.kind (number_first l)) (λ s. trace s l)
@@ -323,10 +311,6 @@ problem p (count n t) = if nat_le n limit then problem (p + 1) t else Some (deep
 
 abbrev pub fault_from : List Token → ℕ → List Item → Option Problem
 fault_from l p s = problem p (trace s (rest l p))
-
--- whether a number comes next
-abbrev pub ahead : List Token → ℕ → Bool
-ahead l p = is_number (stands l (p + 1))
 
 -- whether a statement begins
 abbrev pub begins : Lead → Bool

@@ -10,9 +10,9 @@ use Rattle.dom_ast.specs.Form.{expr, stmt}
 use Rattle.dom_parser.specs.declared.kinds.Fixed.{Fixed}
 use Rattle.dom_parser.specs.declared.kinds.Fixed.TheVariants as fixed
 use Rattle.dom_parser.specs.declared.kinds.Kind.{Kind}
-use Rattle.dom_parser.specs.Tokens.{Mark, rest, stands, offset_at, number_of}
+use Rattle.dom_parser.specs.Tokens.{Mark, rest, stands, offset_at, number_of, ahead}
 use Rattle.dom_parser.specs.Grammar.{top, sign, Way, IsAt, tokens, tree, More, IsAfter, more_tokens, more_trees, Tail, and_op, Args, AreArgs, arg_tokens, arg_trees, MoreArgs, AreMoreArgs, more_arg_tokens, more_arg_trees, Goal, IsGoal, goal_tokens, goal_tree, first_place, Assign, IsAssign, assign_tokens, assign_tree, Stmts, AreStmts, stmts_tokens, stmts_trees, Stmt, IsStmt, stmt_tokens, stmt_tree, Body, IsBody, body_tokens, body_tree, Else, IsElse, else_tokens, else_tree}
-use Rattle.dom_parser.specs.Following.{Item, level, more, close, name_rest, more_args, target_rest, stmts, expand, ahead, is_neg, Problem, bad, deep, held, fault_from}
+use Rattle.dom_parser.specs.Following.{Item, level, more, close, name_rest, more_args, target_rest, stmts, expand, is_neg, Problem, bad, deep, held, fault_from}
 
 -- where n constructs are open, the item has a fault
 pub record Fails (i : Item) (n : ℕ) (l : List Token) (p : ℕ) (f : Problem) : Type 0 where

@@ -1,5 +1,5 @@
 -- What tokens are to the grammar.
-use Rattle.std.specs.Prelude.{ℕ, Bool, true, false, ◌||◌, List, [], map, drop, Option, Some, None, if◌then◌else◌, slice_get, nat_eq, codes}
+use Rattle.std.specs.Prelude.{ℕ, ◌+◌, Bool, true, false, ◌||◌, List, [], ◌∷◌, map, drop, Option, Some, None, if◌then◌else◌, slice_get, nat_eq, codes}
 use Rattle.std.specs.Cmp.Lexicographic.{pointwise}
 use Rattle.dom_words.specs.declared.operators.BinOp.{BinOp}
 use Rattle.dom_words.specs.declared.operators.BinOp.TheVariants as bin
@@ -208,6 +208,23 @@ unary_of (kind.Operator o) = negation o
 unary_of kind.Inv = Some un.Inv
 unary_of kind.Not = Some un.Not
 unary_of _ = None
+
+-- whether a "-" or a number stands there
+abbrev pub is_minus : Kind → Bool
+is_minus (kind.Operator bin.Sub) = true
+is_minus _ = false
+
+abbrev pub is_number : Kind → Bool
+is_number (kind.Number n) = true
+is_number _ = false
+
+-- whether a number comes first, and whether one comes after a place
+abbrev pub number_first : List Mark → Bool
+number_first [] = false
+number_first (t ∷ l) = is_number t.kind
+
+abbrev pub ahead : List Token → ℕ → Bool
+ahead l p = is_number (stands l (p + 1))
 
 -- a fact where the test is passed
 abbrev pub Where : Bool → Type 0 → Type 0

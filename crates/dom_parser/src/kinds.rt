@@ -1,6 +1,6 @@
 ghost use Rattle.std.specs.Prelude.{◌≡◌, ◌<◌, IfErr, IfOk, IfSome, length};
-ghost use Rattle.dom_parser.specs.Following.{begin_of, begins_operand, declared_of, declares, goes_on, is_minus as minus_is, lead_of, leads, suffix_of};
-ghost use Rattle.dom_parser.specs.Tokens.{Where, is_forbidden as forbidden, is_fixed as fixed_is, is_name as name_is, is_there, number_of, offset_at, operator_of, rank_of, stands, symbol_kind as kind_of_symbol, text_at as text_there, token_kind, unary_of, word_kind as kind_of_word};
+ghost use Rattle.dom_parser.specs.Following.{begin_of, begins_operand, declared_of, declares, goes_on, lead_of, leads, suffix_of};
+ghost use Rattle.dom_parser.specs.Tokens.{Where, is_forbidden as forbidden, is_fixed as fixed_is, is_name as name_is, is_there, number_of, offset_at, operator_of, rank_of, stands, symbol_kind as kind_of_symbol, text_at as text_there, token_kind, unary_of, word_kind as kind_of_word, is_minus as minus_is};
 
 use crate::faults::Fault;
 use dom_lexer::{Sym, Token, TokenKind};

@@ -11,4 +11,4 @@ mod statements;
 mod tests;
 
 pub use faults::ParseFault;
-pub use parser::{one_program, parse};
+pub use parser::{one_fault, one_program, parse};

@@ -1,4 +1,4 @@
-ghost use Rattle.std.specs.Prelude.{◌≡◌, ◌+◌, ◌<◌, ◌≤◌, ◌++◌, List, [], ◌∷◌, IfErr, IfOk, OnOk, length, map, true};
+ghost use Rattle.std.specs.Prelude.{◌≡◌, ℕ, ◌+◌, ◌<◌, ◌≤◌, ◌++◌, List, [], ◌∷◌, IfErr, IfOk, OnOk, length, map, true};
 ghost use Rattle.dom_ast.specs.Form.{ProgramForm, guard_form, program_form, transaction_form};
 ghost use Rattle.dom_lexer.specs.declared.token.Token.{Token};
 ghost use Rattle.dom_parser.specs.declared.kinds.Fixed.TheVariants as fixed;
@@ -39,6 +39,11 @@ pub fn parse(alloc: Global, tokens: &Tokens) -> Result<Program, ParseFault>
 /// A list of tokens spells one program at most.
 pub fn one_program()
     ensures { (p q : ProgramForm) (l : List Token) → Spells p l → Spells q l → p ≡ q }
+{}
+
+/// A list of tokens has one fault at most, want of memory aside.
+pub fn one_fault()
+    ensures { (l : List Token) (end : ℕ) (f g : ParseFault) → IsFirstFault l end f → IsFirstFault l end g → (f ≡ ParseFault.Memory → ⊥) → (g ≡ ParseFault.Memory → ⊥) → f ≡ g }
 {}
 
 /// The fault with its offset in the place of the token's number.
