@@ -7,8 +7,8 @@ use Rattle.dom_parser.specs.declared.faults.Fault.{Fault}
 use Rattle.dom_parser.specs.declared.faults.Fault.TheVariants as place
 use Rattle.dom_parser.specs.declared.faults.ParseFault.{ParseFault}
 use Rattle.dom_parser.specs.declared.faults.ParseFault.TheVariants as answer
-use Rattle.dom_parser.specs.Tokens.{Mark, mark, stands, ahead, is_minus, is_number, number_first}
-use Rattle.dom_parser.specs.Grammar.{Program, IsViable, program_opens}
+use Rattle.dom_parser.specs.Tokens.{Mark, mark, stands, is_number, number_first}
+use Rattle.dom_parser.specs.Grammar.{IsViable, program_opens}
 use Rattle.dom_parser.specs.Faults.{located_at, BeginsWith, IsFirstOver, OpensTooMany, RulesOut, Rules, IsFirstFault}
 
 -- what begins with q tokens begins with fewer; what comes next is then the next of them

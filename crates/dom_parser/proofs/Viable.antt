@@ -1,14 +1,8 @@
 -- The tokens before one that may not stand there are a front of some program.
-use Rattle.std.proofs.Common.{◌≡◌, ℕ, zero, suc, ◌+◌, ◌<◌, ◌≤◌, Bool, true, false, List, [], ◌∷◌, ◌++◌, map, take, Option, Some, None, refl, sym, ap, ◌∙◌, subst, arith, append_assoc, if◌then◌else◌}
+use Rattle.std.proofs.Common.{◌≡◌, ℕ, zero, suc, ◌+◌, Bool, true, false, List, [], ◌∷◌, ◌++◌, map, take, Option, Some, None, refl, sym, ap, ◌∙◌, subst, arith, append_assoc, if◌then◌else◌}
 use Rattle.dom_words.specs.declared.operators.UnOp.{UnOp}
 use Rattle.dom_words.specs.declared.operators.UnOp.TheVariants as un
 use Rattle.dom_lexer.specs.declared.token.Token.{Token}
-use Rattle.std.specs.Prelude.{nat_le}
-use Rattle.dom_parser.specs.declared.faults.Fault.{Fault}
-use Rattle.dom_parser.specs.declared.faults.Fault.TheVariants as place
-use Rattle.dom_parser.specs.declared.faults.ParseFault.{ParseFault}
-use Rattle.dom_parser.specs.Faults.{located_at, Rules, IsFirstFault}
-use Rattle.dom_parser.specs.HeadReads.{FailsWholeBy}
 use Rattle.dom_parser.specs.declared.kinds.Kind.{Kind}
 use Rattle.dom_parser.specs.declared.kinds.Kind.TheVariants as kind
 use Rattle.dom_parser.specs.declared.kinds.Begin.{Begin}
@@ -18,7 +12,7 @@ use Rattle.dom_parser.specs.Grammar.{top, IsViable}
 use Rattle.dom_parser.specs.Following as item
 use Rattle.dom_parser.specs.Following.{Item, expand, may_skip, resume, step, held, Trace, fine, stuck, count, on_step, trace, then_row, problem, Problem, bad, deep, limit, whole}
 use Rattle.dom_parser.proofs.Traces.{counted}
-use Rattle.dom_parser.proofs.Kept.{expand_any, at_step, take_map, not_viable, not_spelled}
+use Rattle.dom_parser.proofs.Kept.{expand_any, at_step, take_map}
 use Rattle.dom_parser.proofs.Derived.{AllClean, spelled}
 use Rattle.dom_parser.proofs.Finished.{least, finish, Good, finishes, step_good, whole_good, some_row}
 

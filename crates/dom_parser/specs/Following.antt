@@ -1,7 +1,6 @@
 -- What may follow, token by token: a stack of the items that are still to come.
 use Rattle.std.specs.Prelude.{ℕ, zero, suc, ◌+◌, Bool, true, false, ◌&&◌, List, [], ◌∷◌, ◌++◌, Option, Some, None, if◌then◌else◌, nat_eq, nat_le}
 use Rattle.dom_words.specs.declared.operators.BinOp.{BinOp}
-use Rattle.dom_words.specs.declared.operators.BinOp.TheVariants as bin
 use Rattle.dom_words.specs.declared.operators.UnOp.{UnOp}
 use Rattle.dom_words.specs.declared.operators.UnOp.TheVariants as un
 use Rattle.dom_lexer.specs.declared.token.Token.{Token}
