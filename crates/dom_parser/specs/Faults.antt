@@ -30,7 +30,7 @@ pub record BeginsWith (l : List Token) (p : ℕ) (way : Program) : Type 0 where
   pub front : program_tokens way ≡ map mark (take (suc p) l) ++ rest
   pub operator : is_minus (stands l p) ≡ true → number_first rest ≡ false
 
--- of such numbers the first over 64 stands at place p, and is 65
+-- of these numbers of open constructs the first over 64 stands at place p, and is 65
 abbrev pub IsFirstOver : ℕ → List ℕ → Type 0
 IsFirstOver p [] = ⊥
 IsFirstOver zero (n ∷ ns) = n ≡ 65
