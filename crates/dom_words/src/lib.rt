@@ -11,6 +11,7 @@ mod packet;
 mod seq;
 #[cfg(test)]
 mod tests;
+mod units;
 
 pub use array::{Array, ArrayList, FileList};
 pub use hash::{FnvUnits, HashName, HashUnits};

@@ -23,6 +23,12 @@ fn hashes(rt: HostRuntime) -> Result<(), Fail> {
     let two = HashName { args: 2, letter: 1 };
     assert_eq!(rt; FnvUnits.apply(one, &[0]), 303091727);
     assert_eq!(rt; FnvUnits.apply(two, &[1, 2]), 0x25569e4f);
+    assert_eq!(rt;
+        HashName::named(b"hash3b"),
+        Some(HashName { args: 3, letter: 2 })
+    );
+    let others: [&[u8]; 4] = [b"hash0", b"hash1i", b"hash", b"hash11"];
+    assert!(rt; others.iter().all(|name| HashName::named(name).is_none()));
     Ok(())
 }
 
