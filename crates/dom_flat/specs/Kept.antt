@@ -1,0 +1,104 @@
+-- What holds of a statement list.
+use Rattle.std.specs.Prelude.{ℕ, Bool, true, false, not, ◌&&◌, nat_eq, nat_le, nat_lt, List, [], ◌∷◌, ◌++◌, length, map, replicate, sum, slice_index_or}
+use Rattle.std.specs.List.{list_all, list_any}
+use Rattle.dom_words.specs.declared.array.Array.{Array}
+use Rattle.dom_flat.specs.declared.line.Operand.{Operand}
+use Rattle.dom_flat.specs.declared.line.Operand.TheVariants.{Const, Value}
+use Rattle.dom_flat.specs.declared.line.Line.{Line}
+use Rattle.dom_flat.specs.declared.line.Line.TheVariants as line
+use Rattle.dom_flat.specs.Lines.{makes, operands_of}
+
+-- an array has 1 to 1,048,576 words
+abbrev pub is_length : ℕ → Bool
+is_length n = nat_le 1 n && nat_le n 1048576
+
+abbrev pub are_lengths : List Array → Bool
+are_lengths arrays = list_all (λ array. is_length array.length) arrays
+
+-- the words of all arrays
+abbrev pub state_words : List Array → ℕ
+state_words arrays = sum (map (λ array. array.length) arrays)
+
+-- a hash has as many arguments as its unit says
+abbrev pub has_its_args : Line → Bool
+has_its_args (line.Fetch array i) = true
+has_its_args (line.Store array i value) = true
+has_its_args (line.Un op a) = true
+has_its_args (line.Bin op a b) = true
+has_its_args (line.Cond c a b) = true
+has_its_args (line.Hash unit modulus args) = nat_eq (length args) unit.args
+
+-- the array of a flank is one of so many
+abbrev pub has_array : ℕ → Line → Bool
+has_array arrays (line.Fetch array i) = nat_lt array arrays
+has_array arrays (line.Store array i value) = nat_lt array arrays
+has_array arrays (line.Un op a) = true
+has_array arrays (line.Bin op a b) = true
+has_array arrays (line.Cond c a b) = true
+has_array arrays (line.Hash unit modulus args) = true
+
+abbrev pub lines_within : ℕ → List Line → Bool
+lines_within arrays lines = list_all (λ l. has_array arrays l && has_its_args l) lines
+
+-- a constant, or a value with a number below n
+abbrev pub is_below : ℕ → Operand → Bool
+is_below n (Const w) = true
+is_below n (Value v) = nat_lt v n
+
+abbrev pub are_below : ℕ → List Operand → Bool
+are_below n operands = list_all (is_below n) operands
+
+-- which of the values 0, 1, .. are there: those of the fields are
+abbrev pub entered : ℕ → List Bool
+entered fields = replicate fields true
+
+-- and those of statements, but for the numbers of write flanks
+abbrev pub values_of : ℕ → List Line → List Bool
+values_of fields lines = entered fields ++ map makes lines
+
+-- a constant, or a value that is there
+abbrev pub is_known : List Bool → Operand → Bool
+is_known values (Const w) = true
+is_known values (Value v) = slice_index_or values v false
+
+abbrev pub are_known : List Bool → List Operand → Bool
+are_known values operands = list_all (is_known values) operands
+
+-- statements use the values before them
+abbrev pub are_after : List Bool → List Line → Bool
+are_after values [] = true
+are_after values (l ∷ lines) = are_known values (operands_of l) && are_after (values ++ makes l ∷ []) lines
+
+-- the same constant or value
+abbrev pub is_same : Operand → Operand → Bool
+is_same (Const w) (Const v) = nat_eq w v
+is_same (Const w) (Value v) = false
+is_same (Value v) (Const w) = false
+is_same (Value v) (Value u) = nat_eq v u
+
+-- an array that is read, with its index
+pub record Read : Type 0 where
+  pub array : ℕ
+  pub index : Operand
+
+abbrev pub is_read : List Read → ℕ → Bool
+is_read reads a = list_any (λ r. nat_eq r.array a) reads
+
+abbrev pub is_read_at : List Read → ℕ → Operand → Bool
+is_read_at reads a i = list_any (λ r. nat_eq r.array a && is_same r.index i) reads
+
+abbrev pub is_written : List ℕ → ℕ → Bool
+is_written writes a = list_any (nat_eq a) writes
+
+-- after these read and write flanks: no array is read twice or written twice, and a write flank stands after its array's
+-- read flank and has its index
+abbrev pub are_flanked : List Read → List ℕ → List Line → Bool
+are_flanked reads writes [] = true
+are_flanked reads writes (line.Fetch a i ∷ lines) =
+    not (is_read reads a) && are_flanked (record { array = a; index = i } ∷ reads) writes lines
+are_flanked reads writes (line.Store a i v ∷ lines) =
+    is_read_at reads a i && (not (is_written writes a) && are_flanked reads (a ∷ writes) lines)
+are_flanked reads writes (line.Un op a ∷ lines) = are_flanked reads writes lines
+are_flanked reads writes (line.Bin op a b ∷ lines) = are_flanked reads writes lines
+are_flanked reads writes (line.Cond c a b ∷ lines) = are_flanked reads writes lines
+are_flanked reads writes (line.Hash unit modulus args ∷ lines) = are_flanked reads writes lines

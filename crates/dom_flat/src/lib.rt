@@ -1,0 +1,12 @@
+//! The statement list: a packet transaction as statements of one operation each.
+#![tactic(auto)]
+
+mod eval;
+mod flat;
+mod line;
+#[cfg(test)]
+mod tests;
+
+pub use eval::eval_one;
+pub use flat::Flat;
+pub use line::{Line, LineList, Operand, Operands};
