@@ -1,6 +1,8 @@
 //! Where the bytes of programs and traces come from, and where the bytes of a result go to.
 #![tactic(auto)]
 
+mod clean_shelf;
+mod clean_sink;
 mod disk;
 mod mem_shelf;
 mod mem_sink;
@@ -10,6 +12,8 @@ mod sink;
 #[cfg(test)]
 mod tests;
 
+pub use clean_shelf::CleanShelf;
+pub use clean_sink::CleanSink;
 pub use disk::DiskShelf;
 pub use mem_shelf::MemShelf;
 pub use mem_sink::MemSink;

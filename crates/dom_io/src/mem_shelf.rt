@@ -64,7 +64,7 @@ impl Shelf for MemShelf {
 }
 
 // The first bytes, as many as are wanted and there.
-fn first(alloc: Global, bytes: &[u8], most: usize) -> Result<Vec<u8>, ShelfFault>
+pub(crate) fn first(alloc: Global, bytes: &[u8], most: usize) -> Result<Vec<u8>, ShelfFault>
     ensures ok { IfOk result (λ v. v.items ≡ take most bytes.now) }
     ensures few { IfOk result (λ v. vec_len v ≤ most) }
     ensures err { IfErr result (λ e. e ≡ ShelfFault.Memory) }
@@ -74,7 +74,7 @@ fn first(alloc: Global, bytes: &[u8], most: usize) -> Result<Vec<u8>, ShelfFault
 }
 
 // The bytes of the first file of the name.
-fn find<'a>(files: &'a FileList, name: &[u8]) -> Option<&'a [u8]>
+pub(crate) fn find<'a>(files: &'a FileList, name: &[u8]) -> Option<&'a [u8]>
     ensures { option_copied result ≡ file_of files.now name.now }
 {
     for k in 0..files.len() {

@@ -1,4 +1,7 @@
-use crate::{DiskShelf, MemShelf, MemSink, OutSink, Shelf, ShelfFault, Sink, SinkFault};
+use crate::{
+    CleanShelf, CleanSink, DiskShelf, MemShelf, MemSink, OutSink, Shelf, ShelfFault, Sink,
+    SinkFault,
+};
 use dom_words::{Name, Seq};
 use std::test::Fail;
 use std::{fs, process};
@@ -23,6 +26,22 @@ fn memory_ends(rt: HostRuntime) -> Result<(), Fail> {
     assert_eq!(rt; sink.put(b"cd"), Err(SinkFault));
     assert_eq!(rt; sink.put(b"efgh"), Err(SinkFault));
     assert_eq!(rt; sink.held(), b"abcefg".as_slice());
+    Ok(())
+}
+
+#[test]
+fn clean_ends(rt: HostRuntime) -> Result<(), Fail> {
+    let mut bytes = Seq::new(rt.alloc());
+    bytes.push(7)?;
+    bytes.push(8)?;
+    let mut files = Seq::new(rt.alloc());
+    files.push((Name::of(rt.alloc(), b"numbers")?, bytes))?;
+    let mut shelf = CleanShelf::new(rt.alloc(), files);
+    let some = shelf.read("numbers", 1).map_err(|_| "read")?;
+    assert_eq!(rt; some.as_slice(), [7].as_slice());
+    let none = shelf.read("nothing", 1).map_err(|_| "read")?;
+    assert_eq!(rt; none.len(), 0);
+    assert_eq!(rt; CleanSink::new().put(b"ab"), Ok(()));
     Ok(())
 }
 
