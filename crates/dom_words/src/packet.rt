@@ -26,7 +26,14 @@ impl Packet {
     pub fn zeros(alloc: Global, n: usize) -> Result<Packet, Memory>
         ensures { IfOk result (λ packet. packet ≡ replicate n 0) }
     {
-        match vec![in alloc; 0; n] {
+        Packet::filled(alloc, n, 0)
+    }
+
+    /// A packet of `n` words, all the same.
+    pub fn filled(alloc: Global, n: usize, word: u32) -> Result<Packet, Memory>
+        ensures { IfOk result (λ packet. packet ≡ replicate n word) }
+    {
+        match vec![in alloc; word; n] {
             Ok(words) => Ok(Packet { words }),
             Err(_) => Err(Memory),
         }
