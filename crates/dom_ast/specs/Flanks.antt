@@ -80,7 +80,7 @@ flanked hash env (read a i) =
       arrays = env.arrays;
       fresh = env.fresh;
       words = put a (fetched env.arrays a (place_word i env.packet)) env.words;
-      found = put a (place_word i env.packet) env.found
+      found = put a (place_word i env.packet) env.found;
     }
 flanked hash env (set s) = flank_assigned s.target (value hash (flank_names env) s.value) env
 flanked hash env (write a i) =
@@ -89,7 +89,7 @@ flanked hash env (write a i) =
       arrays = stored env.arrays a (env.found a) (env.words a);
       fresh = env.fresh;
       words = env.words;
-      found = env.found
+      found = env.found;
     }
 
 abbrev pub all_flanked : Hash → FlankEnv → List FlankForm → FlankEnv

@@ -53,7 +53,7 @@ names_in env = record {
   field = slice_index env.packet;
   state = λ a i. fetched env.arrays a (place_word i env.packet);
   fresh = env.fresh;
-  made = λ k. 0
+  made = λ k. 0;
 }
 
 abbrev pub value_in : Hash → Env → PartForm → ℕ
