@@ -6,5 +6,6 @@ pub mod Meaning
 pub mod Named
 pub mod PartSize
 pub mod Resolved
+pub mod Serial
 pub mod Size
 pub mod Straight

@@ -7,6 +7,7 @@ mod flanks;
 mod named;
 mod part;
 mod program;
+mod serial;
 mod steps;
 mod stmt;
 
@@ -16,5 +17,6 @@ pub use flanks::{FlankItem, FlankList, Flanked};
 pub use named::{Named, NamedItem, NamedList};
 pub use part::{Goal, Part, PartList, PartOps, Place};
 pub use program::{FieldList, Head, HeadList, Init, Length, Program, Transaction, TransactionList};
+pub use serial::SerialRun;
 pub use steps::{Step, StepList, Straight};
 pub use stmt::{Stmt, StmtList, Target};

@@ -1,0 +1,2 @@
+mod PartForms
+mod Serials
