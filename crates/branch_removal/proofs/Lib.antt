@@ -1,0 +1,9 @@
+pub mod Chosen
+pub mod Indexes
+pub mod Moves
+pub mod Ranges
+pub mod Sizes
+pub mod Sound
+pub mod Targets
+pub mod Tests
+pub mod Whole
