@@ -169,7 +169,13 @@ fn eval_all<H: HashUnits>(parts: &PartList, words: &[u32], state: &State, hash: 
 
 // A word after operators with their operands, from the left.
 #[cycle(eval)]
-fn eval_rest<H: HashUnits>(first: u32, rest: &PartOps, words: &[u32], state: &State, hash: &H) -> u32
+fn eval_rest<H: HashUnits>(
+    first: u32,
+    rest: &PartOps,
+    words: &[u32],
+    state: &State,
+    hash: &H,
+) -> u32
     requires { ops_within (ranges_over words.now state.now) (op_forms rest.now) ≡ true }
     ensures { result ≡ folded (H.meaning hash.now) (names_in (entering words.now state.now)) first (op_forms rest.now) }
 {
@@ -182,7 +188,13 @@ fn eval_rest<H: HashUnits>(first: u32, rest: &PartOps, words: &[u32], state: &St
 
 // A word after one operator with its operand.
 #[cycle(eval)]
-fn eval_next<H: HashUnits>(word: u32, operand: &(BinOp, Part), words: &[u32], state: &State, hash: &H) -> u32
+fn eval_next<H: HashUnits>(
+    word: u32,
+    operand: &(BinOp, Part),
+    words: &[u32],
+    state: &State,
+    hash: &H,
+) -> u32
     requires { part_within (ranges_over words.now state.now) (form operand.now.1) ≡ true }
     ensures { result ≡ bin_word operand.now.0 word (value_in (H.meaning hash.now) (entering words.now state.now) (form operand.now.1)) }
 {
@@ -253,7 +265,12 @@ fn run_all<H: HashUnits>(acts: &ActList, words: &mut [u32], state: &mut State, h
 }
 
 // Transaction `k`, which is in range on this packet and state as all of them are.
-fn body_at<'a>(bodies: &'a BodyList, k: usize, words: &[u32], state: &State) -> &'a (Option<Part>, ActList)
+fn body_at<'a>(
+    bodies: &'a BodyList,
+    k: usize,
+    words: &[u32],
+    state: &State,
+) -> &'a (Option<Part>, ActList)
     requires inside { k < length bodies.now }
     requires within { bodies_within (ranges_over words.now state.now) (bodies_form bodies.now) ≡ true }
     ensures same { result.now ≡ slice_index_or bodies.now k result.now }
@@ -277,7 +294,13 @@ fn is_met<H: HashUnits>(guard: &Option<Part>, words: &[u32], state: &State, hash
 }
 
 // Tests all guards. The answers come to the front of `answers`.
-fn test_all<H: HashUnits>(bodies: &BodyList, words: &[u32], state: &State, hash: &H, answers: &mut [bool])
+fn test_all<H: HashUnits>(
+    bodies: &BodyList,
+    words: &[u32],
+    state: &State,
+    hash: &H,
+    answers: &mut [bool],
+)
     requires within { bodies_within (ranges_over words.now state.now) (bodies_form bodies.now) ≡ true }
     requires room { length bodies.now ≤ length answers.old }
     ensures { take (length bodies.now) answers.new ≡ map (is_chosen (H.meaning hash.now) (entering words.now state.now)) (bodies_form bodies.now) }
@@ -289,7 +312,13 @@ fn test_all<H: HashUnits>(bodies: &BodyList, words: &[u32], state: &State, hash:
 }
 
 // Runs the transactions for which the answers are yes, in order.
-fn run_picked<H: HashUnits>(bodies: &BodyList, answers: &[bool], words: &mut [u32], state: &mut State, hash: &H)
+fn run_picked<H: HashUnits>(
+    bodies: &BodyList,
+    answers: &[bool],
+    words: &mut [u32],
+    state: &mut State,
+    hash: &H,
+)
     requires within { bodies_within (ranges_over words.old state.old) (bodies_form bodies.now) ≡ true }
     requires room { length bodies.now ≤ length answers.now }
     ensures env { entering words.new state.new ≡ all_run (H.meaning hash.now) (picked (bodies_form bodies.now) answers.now) (entering words.old state.old) }
@@ -304,7 +333,13 @@ fn run_picked<H: HashUnits>(bodies: &BodyList, answers: &[bool], words: &mut [u3
 }
 
 // Tests all guards, and then runs the transactions whose guards hold. The answers come to the front of `answers`.
-fn run_once<H: HashUnits>(bodies: &BodyList, answers: &mut [bool], words: &mut [u32], state: &mut State, hash: &H)
+fn run_once<H: HashUnits>(
+    bodies: &BodyList,
+    answers: &mut [bool],
+    words: &mut [u32],
+    state: &mut State,
+    hash: &H,
+)
     requires within { bodies_within (ranges_over words.old state.old) (bodies_form bodies.now) ≡ true }
     requires room { length bodies.now ≤ length answers.old }
     ensures env { entering words.new state.new ≡ all_chosen (H.meaning hash.now) (bodies_form bodies.now) (entering words.old state.old) }
@@ -349,7 +384,13 @@ impl SerialRun {
         ensures program { self.new.program ≡ self.old.program }
     {
         let program = &self.program;
-        run_once(&program.bodies, &mut self.chosen, packet.words_mut(), &mut self.arrays, hash);
+        run_once(
+            &program.bodies,
+            &mut self.chosen,
+            packet.words_mut(),
+            &mut self.arrays,
+            hash,
+        );
     }
 
     /// The word of an array at an index. Both count from 0 and are in range.

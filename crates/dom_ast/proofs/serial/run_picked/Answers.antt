@@ -14,11 +14,11 @@ loop-k-preserved g c =
     let done : Env = all_acted hash (act_forms c.body_at.result.now.1) before in
     let answer : Bool = slice_index_or c.args.answers.now c.loop-k.k false in
     let is_after : after ≡ (if answer then done else before) = elim c.if-answers-k.branch [
-      then-answers-k w ↦ entering_alike w.words-is w.state-is ∙ w.run_all.ensures.env ∙ sym (ap (λ (x : Bool). if x then done else before) w.if-answers-k.true)
+      | then-answers-k w ↦ entering_alike w.words-is w.state-is ∙ w.run_all.ensures.env ∙ sym (ap (λ (x : Bool). if x then done else before) w.if-answers-k.true)
       | else-answers-k w ↦ entering_alike w.words-is w.state-is ∙ sym (ap (λ (x : Bool). if x then done else before) w.if-answers-k.false)
     ] in
     let sizes : map (length {A = ℕ}) c.if-answers-k.state ≡ map (length {A = ℕ}) c.loop-k.state = elim c.if-answers-k.branch [
-      then-answers-k w ↦ ap (map (length {A = ℕ})) w.state-is ∙ w.run_all.ensures.sizes
+      | then-answers-k w ↦ ap (map (length {A = ℕ})) w.state-is ∙ w.run_all.ensures.sizes
       | else-answers-k w ↦ ap (map (length {A = ℕ})) w.state-is
     ] in
     let in_bodies : c.loop-k.k < length c.args.bodies.now = rw (← c.len-k-end.ensures) c.loop-k-test.true in
