@@ -9,6 +9,7 @@ pub mod KnownKinds
 pub mod One
 pub mod OneFault
 pub mod OneProgram
+pub mod OneStruct
 pub mod Programs
 pub mod Sizes
 pub mod Steps

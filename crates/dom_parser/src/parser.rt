@@ -4,6 +4,7 @@ ghost use Rattle.dom_lexer.specs.declared.token.Token.{Token};
 ghost use Rattle.dom_parser.specs.declared.kinds.Fixed.TheVariants as fixed;
 ghost use Rattle.dom_parser.specs.Tokens.{is_fixed as fixed_is, is_name as name_is, stands};
 ghost use Rattle.dom_parser.specs.Grammar.{IsSpelled, Spells};
+ghost use Rattle.dom_ast.specs.CheckedForm.{has_one_struct};
 ghost use Rattle.dom_ast.specs.Size.{program_nested, program_nodes};
 ghost use Rattle.dom_parser.specs.Faults.{IsFirstFault, SpellsNone, located_at};
 ghost use Rattle.dom_parser.specs.Following as item;
@@ -22,11 +23,12 @@ use std::alloc::Global;
 
 /// The program that the tokens spell, with no more than 64 constructs open at any of them; else the first fault. The
 /// program has no more statements and expression nodes than there are tokens, and its `if`s are nested at most 64 deep,
-/// where a guard counts as one nesting.
+/// where a guard counts as one nesting. It has one struct, and that has a field.
 pub fn parse(alloc: Global, tokens: &Tokens) -> Result<Program, ParseFault>
     ensures ok { IfOk result (λ p. IsSpelled (program_form p) tokens.now.items) }
     ensures nodes { IfOk result (λ p. program_nodes (program_form p) ≤ length tokens.now.items) }
     ensures nested { IfOk result (λ p. program_nested 64 (program_form p) ≡ true) }
+    ensures one_struct { IfOk result (λ p. has_one_struct (program_form p).heads ≡ true) }
     ensures fault { IfErr result (λ f. IsFirstFault tokens.now.items tokens.now.end f) }
     ensures none { IfErr result (λ f. SpellsNone tokens.now.items f) }
 {

@@ -1,4 +1,5 @@
 use Rattle.dom_ast.specs.Form.{program_form}
+use Rattle.dom_parser.proofs.OneStruct.{spelled_struct}
 use Rattle.dom_parser.proofs.Sizes.{few_nodes, few_nested}
 use Rattle.dom_parser.proofs.TooMany.{first_fault}
 use Rattle.dom_parser.proofs.Whole.{parsed, no_program}
@@ -18,3 +19,6 @@ returns-in-Ok-clause-nodes c = few_nodes (program_form c.in-Ok.program) c.args.t
 
 pub returns-in-Ok-clause-nested : goal.returns-in-Ok-clause-nested
 returns-in-Ok-clause-nested c = few_nested (program_form c.in-Ok.program) c.args.tokens.now.items (parsed (program_form c.in-Ok.program) c.args.tokens.now.items c.as_slice.result.now c.as_slice.ensures c.in-Ok.ensures.ok)
+
+pub returns-in-Ok-clause-one_struct : goal.returns-in-Ok-clause-one_struct
+returns-in-Ok-clause-one_struct c = spelled_struct (program_form c.in-Ok.program) c.args.tokens.now.items (parsed (program_form c.in-Ok.program) c.args.tokens.now.items c.as_slice.result.now c.as_slice.ensures c.in-Ok.ensures.ok)
