@@ -1,0 +1,9 @@
+//! One name for each value: assignments of literals and names are taken away, and every other value gets a name of its own.
+#![tactic(auto)]
+
+mod naming;
+mod operand;
+mod renaming;
+mod tables;
+
+pub use naming::name;
