@@ -1,16 +1,15 @@
 -- What the tests of a statement list say.
-use Rattle.std.proofs.Common.{◌≡◌, ℕ, zero, suc, ◌+◌, ◌-◌, ◌<◌, ◌≤◌, Bool, true, false, not, ◌&&◌, nat_eq, List, [], ◌∷◌, ◌++◌, Some, length, map, refl, sym, ap, ◌∙◌, subst, arith, get_or, inl, inr, ⊎_elim, ◌⊎◌}
-use Rattle.std.specs.Prelude.{slice_get}
+use Rattle.std.proofs.Common.{◌≡◌, ℕ, suc, ◌<◌, ◌≤◌, Bool, true, false, not, ◌&&◌, nat_eq, List, [], ◌∷◌, ◌++◌, length, refl, sym, ap, subst, arith, ⊎_elim}
 use Rattle.std.specs.List.{AllByRecursion as Every}
-use Rattle.std.proofs.lemmas.Bool.{ltb-true, lt-ltb, eqb-true, eq-eqb, and_parts, and_from, or_left, or_right, or_cases, not-true, cases_lt}
+use Rattle.std.proofs.lemmas.Bool.{lt-ltb, eqb-true, eq-eqb, and_parts, and_from, or_left, or_right, or_cases, not-true, cases_lt}
 use Rattle.std.proofs.lemmas.List.{length_push, get_or_past}
 use Rattle.dom_flat.specs.declared.line.Operand.{Operand}
 use Rattle.dom_flat.specs.declared.line.Operand.TheVariants.{Const, Value}
 use Rattle.dom_flat.specs.declared.line.Line.{Line}
 use Rattle.dom_flat.specs.declared.line.Line.TheVariants as line
-use Rattle.dom_flat.specs.Lines.{makes, operands_of, stores_to}
+use Rattle.dom_flat.specs.Lines.{makes, operands_of}
 use Rattle.dom_flat.specs.Kept.{is_below, are_below, is_known, are_known, are_after, is_same, Read, is_read, is_read_at, is_written, are_flanked}
-use Rattle.dom_flat.specs.Order.{AreEarlier, Clears, AreFetchedFirst, IsQuiet, StoresAlone, AreStoredOnce}
+use Rattle.dom_flat.specs.Order.{AreEarlier, Clears, AreFetchedFirst, IsQuiet, AreStoredOnce}
 
 -- a value that is there has a number below theirs
 pub known_below : (values : List Bool) (o : Operand) → is_known values o ≡ true → is_below (length values) o ≡ true
