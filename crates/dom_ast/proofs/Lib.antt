@@ -1,2 +1,2 @@
-mod PartForms
-mod Serials
+pub mod PartForms
+pub mod Serials

@@ -326,7 +326,8 @@ fn run_picked<H: HashUnits>(
 {
     for k in 0..bodies.len() {
         let (_, acts) = body_at(bodies, k, words, state);
-        if answers[k] {
+        let chosen = answers[k];
+        if chosen {
             run_all(acts, words, state, hash);
         }
     }
@@ -382,6 +383,7 @@ impl SerialRun {
         ensures packet { packet.new ≡ (one (H.meaning hash.now) (bodies_form self.old.program.bodies) packet.old self.old.arrays).packet }
         ensures arrays { self.new.arrays ≡ (one (H.meaning hash.now) (bodies_form self.old.program.bodies) packet.old self.old.arrays).arrays }
         ensures program { self.new.program ≡ self.old.program }
+        ensures words { length packet.new ≡ length packet.old }
     {
         let program = &self.program;
         run_once(
