@@ -1,5 +1,5 @@
 -- What names mean at a place of a program, and what heads declare.
-use Rattle.std.specs.Prelude.{ℕ, Bool, true, false, List, [], ◌∷◌, ◌++◌, fold, length, map, slice_get, Option, Some, None, if◌then◌else◌}
+use Rattle.std.specs.Prelude.{ℕ, Bool, false, List, [], ◌∷◌, ◌++◌, fold, length, map, slice_get, Option, Some, None, if◌then◌else◌}
 use Rattle.dom_words.specs.declared.array.Array.{Array}
 use Rattle.dom_words.specs.Names.{index_of, is_same}
 use Rattle.dom_ast.specs.declared.program.Head.{Head}
@@ -70,7 +70,7 @@ with_name scope name m =
       names = scope.names ++ name ∷ [];
       meanings = scope.meanings ++ m ∷ [];
       arrays = scope.arrays;
-      param = scope.param
+      param = scope.param;
     }
 
 abbrev pub with_array : Scope → Array → Scope
@@ -81,7 +81,7 @@ with_array scope array =
       names = scope.names;
       meanings = scope.meanings;
       arrays = scope.arrays ++ array ∷ [];
-      param = scope.param
+      param = scope.param;
     }
 
 abbrev pub with_struct : Scope → List ℕ → List (List ℕ) → Scope
@@ -92,7 +92,7 @@ with_struct scope tag fields =
       names = scope.names;
       meanings = scope.meanings;
       arrays = scope.arrays;
-      param = scope.param
+      param = scope.param;
     }
 
 abbrev pub with_param : Scope → List ℕ → Scope
@@ -103,7 +103,19 @@ with_param scope param =
       names = scope.names;
       meanings = scope.meanings;
       arrays = scope.arrays;
-      param = Some param
+      param = Some param;
+    }
+
+-- after the end of a transaction
+abbrev pub without_param : Scope → Scope
+without_param scope =
+    record {
+      tag = scope.tag;
+      fields = scope.fields;
+      names = scope.names;
+      meanings = scope.meanings;
+      arrays = scope.arrays;
+      param = None;
     }
 
 -- a global's own name is declared where its length and its first word are looked at

@@ -1,6 +1,7 @@
 -- The checks of a program, in the order of a walk through it, each with its fault and whether it holds.
 use Rattle.std.specs.Prelude.{ℕ, suc, ◌+◌, Bool, true, false, not, ◌&&◌, ◌||◌, nat_eq, nat_le, nat_lt, List, [], ◌∷◌, ◌++◌, length, Option, Some, None, is_some, option_map}
 use Rattle.std.specs.List.{find}
+use Rattle.dom_words.specs.declared.array.Array.{Array}
 use Rattle.dom_words.specs.declared.hash.HashName.{HashName}
 use Rattle.dom_words.specs.Names.{has_name, is_same}
 use Rattle.dom_words.specs.Units.{unit_named}
@@ -12,7 +13,7 @@ use Rattle.dom_ast.specs.declared.program.Length.TheVariants as extent
 use Rattle.dom_ast.specs.declared.program.Init.{Init}
 use Rattle.dom_ast.specs.declared.program.Init.TheVariants as init
 use Rattle.dom_ast.specs.Form.{ExprForm, number, word, field, index, call, un, chain, choice, ExprForms, no_exprs, expr, OpForms, no_ops, op, TargetForm, to_word, to_field, to_index, StmtForm, assign, branch, StmtForms, no_stmts, stmt, TransactionForm, ProgramForm}
-use Rattle.dom_ast.specs.Kept.{Mention, acts_visits, act_visits, is_no_index, is_place, mentions_in, part_mentions, state_words}
+use Rattle.dom_ast.specs.Kept.{Mention, acts_visits, act_visits, is_length, is_no_index, is_place, mentions_in, part_mentions, state_words}
 use Rattle.dom_checks.specs.declared.faults.CheckFault.{CheckFault}
 use Rattle.dom_checks.specs.declared.faults.CheckFault.TheVariants as fault
 use Rattle.dom_checks.specs.declared.faults.Limit.TheVariants as limit
@@ -64,23 +65,25 @@ init_checks scope None = []
 init_checks scope (Some (init.Word w)) = []
 init_checks scope (Some (init.Named p n)) = define_checks scope p n
 
--- at a global, whose own name is declared already: its length, and the sum of the lengths so far
-abbrev pub size_checks : Scope → ℕ → Option Length → List Check
-size_checks scope p l =
-    check (fault.TooLarge limit.Length p) (nat_le 1 (length_of scope l) && nat_le (length_of scope l) 1048576)
-    ∷ check (fault.TooLarge limit.Words p) (nat_le (state_words scope.arrays + length_of scope l) 1048576)
+-- at a global that has n words after those of the arrays before it
+abbrev pub size_checks : List Array → ℕ → ℕ → List Check
+size_checks arrays p n =
+    check (fault.TooLarge limit.Length p) (is_length n)
+    ∷ check (fault.TooLarge limit.Words p) (nat_le (state_words arrays + n) 1048576)
     ∷ []
 
+-- at a global, whose own name is declared already
 abbrev pub global_checks : Scope → ℕ → Option Length → Option Init → List Check
-global_checks scope p l i = length_checks scope l ++ (size_checks scope p l ++ init_checks scope i)
+global_checks scope p l i = length_checks scope l ++ (size_checks scope.arrays p (length_of scope l) ++ init_checks scope i)
 
--- at the fields, with those before them
+-- at a field, with those before it
+abbrev pub new_field_checks : List (List ℕ) → ℕ × List ℕ → List Check
+new_field_checks before f =
+    check (fault.Twice f.0) (not (has_name before f.1)) ∷ check (fault.TooLarge limit.Fields f.0) (nat_lt (length before) 64) ∷ []
+
 abbrev pub fields_checks : List (List ℕ) → List (ℕ × List ℕ) → List Check
 fields_checks before [] = []
-fields_checks before (f ∷ fields) =
-    check (fault.Twice f.0) (not (has_name before f.1))
-    ∷ check (fault.TooLarge limit.Fields f.0) (nat_lt (length before) 64)
-    ∷ fields_checks (before ++ f.1 ∷ []) fields
+fields_checks before (f ∷ fields) = new_field_checks before f ++ fields_checks (before ++ f.1 ∷ []) fields
 
 abbrev pub head_checks : Scope → Head → List Check
 head_checks scope (head.Define p name w) = name_checks scope p name
@@ -169,7 +172,7 @@ index_checks in_guard scope before p name e =
     check (fault.UnknownName p) (is_declared scope name || is_hash_name name)
     ∷ check (fault.ShapeOfName p) (is_array (meant scope name) && not in_guard)
     ∷ (place_checks scope e
-      ++ check (fault.TwoIndexes p) (is_same_index (first_index before (array_number (meant scope name))) (place_of scope e)) ∷ [])
+    ++ check (fault.TwoIndexes p) (is_same_index (first_index before (array_number (meant scope name))) (place_of scope e)) ∷ [])
 
 abbrev pub exprs_count : ExprForms → ℕ
 exprs_count no_exprs = 0

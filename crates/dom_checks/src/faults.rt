@@ -1,3 +1,5 @@
+use dom_words::Memory;
+
 /// Why a program is not well formed (docs/LANGUAGE.md, "Checks"). Each variant has an offset in the text.
 #[derive(Clone, Copy, Debug, PartialEq, Eq)]
 pub enum CheckFault {
@@ -32,4 +34,15 @@ pub enum Limit {
     Length,
     /// Words of all arrays: 1,048,576 at most.
     Words,
+}
+
+impl From<Memory> for CheckFault {
+    ghost use Rattle.std.specs.Prelude.{◌≡◌};
+    ghost use Rattle.dom_checks.specs.declared.faults.CheckFault.TheVariants as fault;
+
+    ghost from_gives = { λ _ f. f ≡ fault.Memory };
+
+    fn from(_memory: Memory) -> Self {
+        CheckFault::Memory
+    }
 }

@@ -1,0 +1,15 @@
+pub mod Arms
+pub mod Declares
+pub mod FirstFaults
+pub mod HeadSteps
+pub mod LookUps
+pub mod Numbers
+pub mod OneIndex
+pub mod OneStruct
+pub mod Sizes
+pub mod Sound
+pub mod SoundStmts
+pub mod SoundTransactions
+pub mod Tables
+pub mod Transactions
+pub mod Walked

@@ -1,0 +1,98 @@
+-- What checks answer, and what they rest on.
+use Rattle.std.specs.Prelude.{◌≡◌, ℕ, ◌<◌, Bool, true, false, not, ◌&&◌, ◌||◌, nat_eq, List, [], ◌∷◌, slice_get, Option, Some, None}
+use Rattle.std.specs.List.{list_all, list_any}
+use Rattle.dom_ast.specs.declared.part.Place.{Place}
+use Rattle.dom_ast.specs.declared.part.Place.TheVariants as place
+use Rattle.dom_ast.specs.Kept.{Mention, have_one_index, is_no_index, is_place, mention}
+use Rattle.dom_checks.specs.declared.faults.CheckFault.{CheckFault}
+use Rattle.dom_checks.specs.declared.faults.CheckFault.TheVariants as fault
+use Rattle.dom_checks.specs.declared.meant.Meant.{Meant}
+use Rattle.dom_checks.specs.declared.meant.Meant.TheVariants as meaning
+use Rattle.dom_checks.specs.declared.seen.Mention.{Mention as Kept}
+use Rattle.dom_checks.specs.Kept.{is_numbered}
+use Rattle.dom_checks.specs.Scope.{Scope, meant}
+use Rattle.dom_checks.specs.Walk.{Check, check, first_fault, first_index, is_array, is_declared, is_hash_name, is_same_index}
+
+-- the fault is that of the first check that does not hold; of want of memory nothing is said
+abbrev pub IsFirst : CheckFault → List Check → Type 0
+IsFirst (fault.Twice p) checks = first_fault checks ≡ Some (fault.Twice p)
+IsFirst (fault.UnknownName p) checks = first_fault checks ≡ Some (fault.UnknownName p)
+IsFirst (fault.ShapeOfName p) checks = first_fault checks ≡ Some (fault.ShapeOfName p)
+IsFirst (fault.BadIndex p) checks = first_fault checks ≡ Some (fault.BadIndex p)
+IsFirst (fault.TwoIndexes p) checks = first_fault checks ≡ Some (fault.TwoIndexes p)
+IsFirst (fault.IndexAssignedLater p) checks = first_fault checks ≡ Some (fault.IndexAssignedLater p)
+IsFirst (fault.HashArgs p) checks = first_fault checks ≡ Some (fault.HashArgs p)
+IsFirst (fault.TooLarge limit p) checks = first_fault checks ≡ Some (fault.TooLarge limit p)
+IsFirst fault.Memory checks = Unit {0}
+
+-- a mention as it is kept
+abbrev pub named : Kept → Mention
+named m = mention m.array m.index
+
+-- the first index of each array
+abbrev pub AreFirsts : List Mention → List (Option Place) → Type 0
+AreFirsts mentions firsts = (a : ℕ) → a < 32 → slice_get firsts a ≡ Some (first_index mentions a)
+
+-- whether each field is an index
+abbrev pub AreIndexes : List Mention → List Bool → Type 0
+AreIndexes mentions indexes = (f : ℕ) → f < 64 → slice_get indexes f ≡ Some (not (is_no_index mentions f))
+
+-- what is kept of the mentions of arrays so far
+pub record AreTables (mentions : List Mention) (firsts : List (Option Place)) (indexes : List Bool) : Type 0 where
+  pub first : AreFirsts mentions firsts
+  pub index : AreIndexes mentions indexes
+
+-- a field that is an index is one of n
+abbrev pub IsPlaceBelow : ℕ → Place → Type 0
+IsPlaceBelow n (place.Word w) = Unit {0}
+IsPlaceBelow n (place.Field f) = f < n
+
+-- in a guard the fault is at the name
+abbrev pub IsRefusedIn : Bool → ℕ → CheckFault → Type 0
+IsRefusedIn true p f = f ≡ fault.ShapeOfName p
+IsRefusedIn false p f = f ≡ fault.Memory
+
+-- at the name before an index
+abbrev pub array_checks : Bool → Scope → ℕ → List ℕ → List Check
+array_checks in_guard scope p name =
+    check (fault.UnknownName p) (is_declared scope name || is_hash_name name)
+    ∷ check (fault.ShapeOfName p) (is_array (meant scope name) && not in_guard)
+    ∷ []
+
+-- at the name after the index is looked at
+abbrev pub second_checks : List Mention → ℕ → Mention → List Check
+second_checks before p m = check (fault.TwoIndexes p) (is_same_index (first_index before m.array) m.index) ∷ []
+
+-- whether a number is that of a scalar
+abbrev pub is_scalar : ℕ → Meant → Bool
+is_scalar k (meaning.Define w) = false
+is_scalar k (meaning.Scalar j) = nat_eq j k
+is_scalar k (meaning.Array j) = false
+is_scalar k meaning.Parameter = false
+
+abbrev pub has_scalar : List Meant → ℕ → Bool
+has_scalar meanings k = list_any (is_scalar k) meanings
+
+-- the number of an array with an index is not that of a scalar
+abbrev pub is_apart : List Meant → Meant → Bool
+is_apart meanings (meaning.Define w) = true
+is_apart meanings (meaning.Scalar k) = true
+is_apart meanings (meaning.Array k) = not (has_scalar meanings k)
+is_apart meanings meaning.Parameter = true
+
+-- every number in the meanings is that of an array, and none is both a scalar's and that of an array with an index
+pub record AreNumbers (arrays : ℕ) (meanings : List Meant) : Type 0 where
+  pub below : list_all (is_numbered arrays) meanings ≡ true
+  pub apart : list_all (is_apart meanings) meanings ≡ true
+
+-- a scalar is mentioned at its one word
+abbrev pub is_at_word : List Meant → Mention → Bool
+is_at_word meanings m = not (has_scalar meanings m.array) || is_place m.index (place.Word 0)
+
+-- all mentions of an array have one index, and scalars are mentioned at their one word
+abbrev pub are_settled : List Meant → List Mention → Bool
+are_settled meanings mentions = have_one_index mentions && list_all (is_at_word meanings) mentions
+
+-- at a field that is a target, after its names
+abbrev pub later_checks : List Mention → ℕ → ℕ → List Check
+later_checks before p f = check (fault.IndexAssignedLater p) (is_no_index before f) ∷ []
