@@ -1,19 +1,23 @@
--- Arrays of which none is empty, and items of lists that are within their ranges.
-use Rattle.std.proofs.Common.{◌≡◌, ℕ, zero, add-one, suc, ◌+◌, ◌<◌, if◌then◌else◌, ◌≤◌, Bool, true, false, ◌&&◌, Option, None, Some, List, [], ◌∷◌, ◌++◌, map, length, take, drop, replicate, refl, sym, ap, ◌∙◌, slice_index_or, slice_set, nat_eq, nat_lt, nat_le, arith}
+-- Serial runs: numbers in range, arrays of which none is empty, and what steps come to.
+use Rattle.std.proofs.Common.{◌≡◌, ℕ, zero, add-one, suc, ◌+◌, ◌<◌, if◌then◌else◌, Bool, true, false, ◌&&◌, Option, None, Some, List, [], ◌∷◌, ◌++◌, map, length, take, drop, replicate, refl, sym, ap, ◌∙◌, slice_index_or, slice_set, nat_eq, nat_lt, nat_le, arith}
 use Rattle.std.proofs.Math.Bool.{and-true}
 use Rattle.std.proofs.Math.Seq.{drop-cons, take-append_seam}
 use Rattle.std.proofs.lemmas.Bool.{and_from, and_parts, eqb-true}
 use Rattle.std.proofs.lemmas.List.{get_or_default, length-map, length-replicate, length-set}
 use Rattle.std.proofs.lemmas.List.Folds.{list_all-append, list_all-map}
 use Rattle.std.specs.List.{filter, list_all}
+use Rattle.std.specs.Prelude.{Box}
+use Rattle.std.specs.declared.alloc.Global.{Global}
 use Rattle.dom_words.specs.State.{Hash, IsStateOf, array_of, started}
 use Rattle.dom_words.specs.declared.array.Array.{Array}
 use Rattle.dom_words.specs.declared.hash.HashName.{HashName}
 use Rattle.dom_words.specs.declared.operators.BinOp.{BinOp}
 use Rattle.dom_ast.specs.declared.checked.Act.{Act}
 use Rattle.dom_ast.specs.declared.part.Part.{Part}
+use Rattle.dom_ast.specs.declared.part.Part.TheViews.{Chain}
+use Rattle.dom_ast.proofs.PartForms.{form_chain}
 use Rattle.dom_ast.specs.Kept.{Ranges, act_visits, acts_visits, are_lengths, are_within, bodies_visits, count_of, goal_within, guard_visits, is_length, resolved_ranges, visit_within, ops_within, part_within, parts_within}
-use Rattle.dom_ast.specs.Meaning.{Env, all_acted, all_chosen, entering, is_chosen}
+use Rattle.dom_ast.specs.Meaning.{Env, all_acted, all_chosen, entering, folded, is_chosen, names_in, one, value_in}
 use Rattle.dom_ast.specs.Resolved.{PartForm, ActForm, assign, branch, ActForms, no_acts, act, BodyForm, act_form, act_forms, bodies_form, body_form, guard_form, call, form, forms, op_forms}
 use Rattle.dom_ast.specs.Serial.{act_within, acts_within, IsPlaceOf, all_run, are_filled, bodies_within, guard_within, picked, ranges_over}
 
@@ -160,6 +164,24 @@ pub one_is : (hash : Hash) (bodies : List BodyForm) (answers : List Bool) (packe
 one_is hash bodies answers packet arrays tested =
     ap (λ (bs : List BodyForm). all_run hash bs (entering packet arrays)) (picked_is (is_chosen hash (entering packet arrays)) bodies answers tested)
 
--- a packet is what was written over it
-pub packet_is : (old new : List ℕ) → length new ≡ length old → take (length old) (new ++ drop (length new) old) ≡ new
-packet_is old new same = ap (λ (n : ℕ). take n (new ++ drop (length new) old)) (sym same) ∙ take-append_seam new (drop (length new) old)
+over_is : (old new : List ℕ) → length new ≡ length old → take (length old) (new ++ drop (length new) old) ≡ new
+over_is old new same = ap (λ (n : ℕ). take n (new ++ drop (length new) old)) (sym same) ∙ take-append_seam new (drop (length new) old)
+
+module _ (hash : Hash) (bodies : List BodyForm) (packet lent new : List ℕ) (arrays after : List (List ℕ)) (same : length new ≡ length lent) (is_lent : lent ≡ packet) (run : entering new after ≡ all_chosen hash bodies (entering lent arrays)) where
+  -- the packet that is lent and written back
+  pub packet_is : take (length packet) (new ++ drop (length new) packet) ≡ (one hash bodies packet arrays).packet
+  packet_is =
+      over_is packet new (same ∙ ap length is_lent)
+      ∙ ap (λ (env : Env). env.packet) run
+      ∙ ap (λ (words : List ℕ). (all_chosen hash bodies (entering words arrays)).packet) is_lent
+
+  pub arrays_are : after ≡ (one hash bodies packet arrays).arrays
+  arrays_are =
+      ap (λ (env : Env). env.arrays) run ∙ ap (λ (words : List ℕ). (all_chosen hash bodies (entering words arrays)).arrays) is_lent
+
+-- a chain is its first part, and then its operators with their operands
+pub chain_is : (hash : Hash) (env : Env) (first : Box Part Global) (rest : List (BinOp × Part)) (head : Part) (word result : ℕ) → result ≡ folded hash (names_in env) word (op_forms rest) → word ≡ value_in hash env (form head) → head ≡ first.value → result ≡ value_in hash env (form (Chain first rest))
+chain_is hash env first rest head word result is_result is_word is_head =
+    is_result
+    ∙ ap (λ (w : ℕ). folded hash (names_in env) w (op_forms rest)) (is_word ∙ ap (λ (p : Part). value_in hash env (form p)) is_head)
+    ∙ ap (value_in hash env) (sym (form_chain first rest))

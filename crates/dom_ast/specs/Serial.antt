@@ -1,5 +1,5 @@
 -- What a serial run keeps, and what it does at each step.
-use Rattle.std.specs.Prelude.{ℕ, ◌<◌, Bool, true, false, ◌&&◌, Option, Some, None, List, [], ◌∷◌, fold, if◌then◌else◌, length, nat_lt, slice_get, IsSomeAnd}
+use Rattle.std.specs.Prelude.{ℕ, ◌<◌, Bool, true, ◌&&◌, Option, Some, None, List, [], ◌∷◌, fold, if◌then◌else◌, length, nat_lt, slice_get, IsSomeAnd}
 use Rattle.std.specs.List.{list_all}
 use Rattle.dom_words.specs.State.{Hash}
 use Rattle.dom_words.specs.declared.array.Array.{Array}

@@ -1,4 +1,3 @@
-use Rattle.std.proofs.Common.{◌≤◌, subst, sym}
 use Rattle.dom_ast.specs.Serial.{ranges_over}
 use Rattle.dom_ast.proofs.Serials.{call_within}
 use Rattle.dom_ast.proofs.serial.count_of_args.Goals as goal

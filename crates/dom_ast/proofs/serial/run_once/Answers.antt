@@ -1,4 +1,4 @@
-use Rattle.std.proofs.Common.{◌∙◌, ℕ, Bool, List, ap, take}
+use Rattle.std.proofs.Common.{◌∙◌, ℕ, ap, take}
 use Rattle.std.proofs.lemmas.List.{length-map}
 use Rattle.dom_ast.specs.Resolved.{bodies_form, body_form}
 use Rattle.dom_ast.proofs.Serials.{one_is}

@@ -1,4 +1,4 @@
-use Rattle.std.proofs.Common.{◌≡◌, ◌<◌, ◌∙◌, ℕ, Bool, List, ap, sym, length, map, false, if◌then◌else◌, slice_index_or, arith}
+use Rattle.std.proofs.Common.{◌≡◌, ◌<◌, ◌∙◌, ℕ, Bool, ap, sym, length, map, false, if◌then◌else◌, slice_index_or, arith}
 use Rattle.dom_ast.specs.Meaning.{Env, all_acted, entering}
 use Rattle.dom_ast.specs.Resolved.{act_forms, bodies_form}
 use Rattle.dom_ast.specs.Serial.{bodies_within}

@@ -1,4 +1,4 @@
-use Rattle.std.proofs.Common.{◌≡◌, length, map, take}
+use Rattle.std.proofs.Common.{◌≡◌, map, take}
 use Rattle.dom_ast.specs.Meaning.{entering, is_chosen}
 use Rattle.dom_ast.specs.Resolved.{bodies_form}
 use Rattle.dom_ast.proofs.serial.test_all.Given as goal

@@ -1,4 +1,3 @@
-use Rattle.std.proofs.Common.{rules}
 use Rattle.dom_ast.proofs.Serials.{started_sizes}
 use Rattle.dom_ast.proofs.serial.SerialRun.new.Goals as goal
 

@@ -1,7 +1,6 @@
-use Rattle.std.proofs.Common.{◌≡◌, ◌∙◌, ap, length, List, ℕ}
-use Rattle.dom_ast.specs.Meaning.{Env, all_chosen, entering}
+use Rattle.std.proofs.Common.{◌∙◌, ap, length}
 use Rattle.dom_ast.specs.Resolved.{bodies_form}
-use Rattle.dom_ast.proofs.Serials.{packet_is, program_within}
+use Rattle.dom_ast.proofs.Serials.{arrays_are, packet_is, program_within}
 use Rattle.dom_ast.proofs.serial.SerialRun.step.Goals as goal
 
 pub run_once-requires-clause-within : goal.run_once-requires-clause-within
@@ -11,13 +10,8 @@ run_once-requires-clause-within g c =
 
 pub returns-clause-packet : goal.returns-clause-packet
 returns-clause-packet g c =
-    let all = all_chosen (g.H.HashUnits.meaning c.args.hash.now) (bodies_form c.args.self.now.program.bodies) in
-    packet_is c.args.packet.now c.run_once.new.words (c.run_once.auto.words ∙ ap length c.words_mut.ensures.value)
-    ∙ ap (λ (env : Env). env.packet) c.run_once.ensures.env
-    ∙ ap (λ (words : List ℕ). (all (entering words c.args.self.now.arrays)).packet) c.words_mut.ensures.value
+    packet_is (g.H.HashUnits.meaning c.args.hash.now) (bodies_form c.args.self.now.program.bodies) c.args.packet.now c.words_mut.result.now c.run_once.new.words c.args.self.now.arrays c.run_once.new.state c.run_once.auto.words c.words_mut.ensures.value c.run_once.ensures.env
 
 pub returns-clause-arrays : goal.returns-clause-arrays
 returns-clause-arrays g c =
-    let all = all_chosen (g.H.HashUnits.meaning c.args.hash.now) (bodies_form c.args.self.now.program.bodies) in
-    ap (λ (env : Env). env.arrays) c.run_once.ensures.env
-    ∙ ap (λ (words : List ℕ). (all (entering words c.args.self.now.arrays)).arrays) c.words_mut.ensures.value
+    arrays_are (g.H.HashUnits.meaning c.args.hash.now) (bodies_form c.args.self.now.program.bodies) c.args.packet.now c.words_mut.result.now c.run_once.new.words c.args.self.now.arrays c.run_once.new.state c.run_once.auto.words c.words_mut.ensures.value c.run_once.ensures.env
