@@ -1,0 +1,10 @@
+pub mod Arms
+pub mod Between
+pub mod Ends
+pub mod Follows
+pub mod Lists
+pub mod Marks
+pub mod Mentions
+pub mod Sizes
+pub mod Tests
+pub mod Whole
