@@ -56,6 +56,14 @@ impl<T> Seq<T> {
     {
         &self.items[k]
     }
+
+    /// All items, as a vector of their own.
+    pub fn into_vec(self) -> Vec<T>
+        ensures { result.items ≡ self }
+    {
+        let Seq { items } = self;
+        items
+    }
 }
 
 impl<T: Drop> Seq<T> {
