@@ -7,7 +7,7 @@ use Rattle.dom_words.specs.declared.operators.BinOp.TheVariants.{Mul, Div, Rem, 
 use Rattle.dom_words.specs.declared.operators.UnOp.{UnOp}
 use Rattle.dom_words.specs.declared.operators.UnOp.TheVariants.{Neg, Inv, Not}
 
--- the word of a number, modulo 2^32
+-- the word of a number from -2^31 to 2^32-1
 abbrev pub word_of : ℤ → ℕ
 word_of z = cast_unsigned w32 z
 
