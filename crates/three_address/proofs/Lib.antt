@@ -1,0 +1,12 @@
+pub mod Chains
+pub mod Flanks
+pub mod Grown
+pub mod Kept
+pub mod KeptFlanks
+pub mod KeptMeans
+pub mod Marks
+pub mod Means
+pub mod Numbers
+pub mod Passed
+pub mod Sizes
+pub mod WholeMeans

@@ -1,0 +1,7 @@
+use Rattle.std.proofs.Common.{◌≡◌, map, take}
+use Rattle.three_address.specs.Marking.{number_in}
+use Rattle.three_address.specs.Needs.{renumbered}
+use Rattle.three_address.proofs.numbering.all_renumbered.Given as goal
+
+abbrev pub invariant-loop-operand : goal.invariant-loop-operand
+invariant-loop-operand l = l.all ≡ map (renumbered (number_in l.fields l.numbers)) (take l.operand-index l.operands)

@@ -1,0 +1,4 @@
+pub mod Flattening
+pub mod Marking
+pub mod Needs
+pub mod Statements
