@@ -1,6 +1,7 @@
 pub mod Chosen
 pub mod Indexes
 pub mod Moves
+pub mod Numbered
 pub mod Ranges
 pub mod Sizes
 pub mod Sound

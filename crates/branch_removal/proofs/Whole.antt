@@ -10,9 +10,10 @@ use Rattle.dom_ast.specs.Meaning.{one}
 use Rattle.dom_ast.specs.PartSize.{bodies_nested, bodies_nodes}
 use Rattle.dom_ast.specs.Resolved.{BodyForm, bodies_form}
 use Rattle.dom_ast.specs.Straight.{StepForm, step_form, step_visit, steps_nodes, straight_outcome, straight_ranges}
-use Rattle.branch_removal.specs.Branches.{guards, ifs, straight}
+use Rattle.branch_removal.specs.Branches.{given_names, guards, ifs, numbers, straight}
 use Rattle.branch_removal.proofs.Chosen.{means_one}
 use Rattle.branch_removal.proofs.Indexes.{straight_keeps, straight_one_index}
+use Rattle.branch_removal.proofs.Numbered.{straight_names}
 use Rattle.branch_removal.proofs.Ranges.{straight_within}
 use Rattle.branch_removal.proofs.Sizes.{few_names, few_steps}
 
@@ -47,3 +48,7 @@ pub steps_few : (steps : List StepForm) (found bodies : List BodyForm) → Made 
 steps_few steps found bodies made size nested =
     let few : steps_nodes (straight bodies) < 2 ^ 22 = few_steps bodies size nested in
     rw (list_of steps found bodies made) few
+
+pub steps_names : (steps : List StepForm) (found bodies : List BodyForm) (fields arrays fresh : ℕ) → Made steps found bodies → fresh ≡ guards found + ifs found → are_within (resolved_ranges fields arrays) (bodies_visits bodies) ≡ true → given_names steps ≡ numbers 0 fresh
+steps_names steps found bodies fields arrays fresh made k h =
+    rw (list_of steps found bodies made, k, made.same) (straight_names fields arrays bodies h)

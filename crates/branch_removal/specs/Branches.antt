@@ -1,5 +1,5 @@
 -- Branches as conditional moves: the list of steps of transactions.
-use Rattle.std.specs.Prelude.{ℕ, suc, ◌+◌, List, [], ◌∷◌, ◌++◌, map, sum, fold, reverse, Option, Some, None}
+use Rattle.std.specs.Prelude.{ℕ, zero, suc, ◌+◌, List, [], ◌∷◌, ◌++◌, flat_map, fold, map, reverse, Option, Some, None}
 use Rattle.dom_ast.specs.declared.part.Goal.{Goal}
 use Rattle.dom_ast.specs.declared.part.Goal.TheVariants as goal
 use Rattle.dom_ast.specs.Resolved.{PartForm, field, state, fresh, choice, ActForm, assign, branch, ActForms, no_acts, act, BodyForm}
@@ -85,6 +85,20 @@ bodies_steps k n (body ∷ bodies) =
 -- the steps of a program: first those of all guards, and then those of the transactions, in the order of the text
 abbrev pub straight : List BodyForm → List StepForm
 straight bodies = guard_steps 0 bodies ++ bodies_steps 0 (guards bodies) bodies
+
+abbrev pub goal_names : Goal → List ℕ
+goal_names (goal.Field f) = []
+goal_names (goal.State a i) = []
+goal_names (goal.Fresh k) = k ∷ []
+
+-- the fresh names that steps give words to, in order
+abbrev pub given_names : List StepForm → List ℕ
+given_names steps = flat_map (λ s. goal_names s.target) steps
+
+-- so many numbers from n on
+abbrev pub numbers : ℕ → ℕ → List ℕ
+numbers n zero = []
+numbers n (suc count) = n ∷ numbers (n + 1) count
 
 -- a step of the innermost of these branches, each of which stands in the one before it
 abbrev pub within : List Branch → StepForm → StepForm

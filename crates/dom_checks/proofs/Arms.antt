@@ -1,8 +1,8 @@
 -- Expressions and statements of which a part after another is checked.
-use Rattle.std.proofs.Common.{◌≡◌, ℕ, suc, Bool, true, false, not, ◌||◌, nat_eq, List, [], ◌∷◌, ◌++◌, length, map, Option, Some, None, Result, Ok, Err, refl, sym, ap, ◌∙◌, subst, append_assoc}
-use Rattle.std.specs.Prelude.{Box, is_some, IfOk, OnOk}
+use Rattle.std.proofs.Common.{◌≡◌, ℕ, suc, Bool, true, false, not, ◌||◌, nat_eq, List, [], ◌∷◌, ◌++◌, length, Option, Some, None, Result, Ok, Err, refl, sym, ap, ◌∙◌, subst, append_assoc}
+use Rattle.std.specs.Prelude.{Box, is_some, OnOk}
 use Rattle.std.specs.declared.alloc.Global.{Global}
-use Rattle.std.proofs.lemmas.Bool.{and_from, eq-eqb, ne_eqb}
+use Rattle.std.proofs.lemmas.Bool.{eq-eqb, ne_eqb}
 use Rattle.std.proofs.lemmas.Grind.{flat_map-append}
 use Rattle.std.proofs.lemmas.List.{append-nil}
 use Rattle.dom_words.specs.declared.hash.HashName.{HashName}
@@ -21,13 +21,13 @@ use Rattle.dom_ast.specs.declared.stmt.Target.{Target}
 use Rattle.dom_ast.specs.declared.stmt.Target.TheVariants as target
 use Rattle.dom_ast.specs.Form.{ExprForm, OpForms, StmtForm, StmtForms, TargetForm, assign, branch, chain, choice, expr_step, form, forms, guard_form, op_forms, stmt_form, stmt_forms, stmt_step, target_form, to_field}
 use Rattle.dom_ast.specs.Resolved as tree
-use Rattle.dom_ast.specs.Kept.{Mention, Visit, act_visits, acts_visits, are_within, condition, guard_visits, is_empty, is_guard_free, mention, mentions_in, ops_mentions, part_mentions, resolved_ranges, visit_mentions}
+use Rattle.dom_ast.specs.Kept.{Mention, act_visits, acts_visits, are_within, condition, guard_visits, is_empty, is_guard_free, mention, mentions_in, ops_mentions, part_mentions, resolved_ranges, visit_mentions}
 use Rattle.dom_checks.specs.declared.faults.CheckFault.{CheckFault}
 use Rattle.dom_checks.specs.declared.faults.CheckFault.TheVariants as fault
-use Rattle.dom_checks.specs.Answers.{AreNumbers, IsFirst, are_settled, array_checks, later_checks, second_checks}
+use Rattle.dom_checks.specs.Answers.{AreNumbers, IsFirst, are_settled}
 use Rattle.dom_checks.specs.Resolve.{act_of, acts_of, array_number, field_number, guard_of, ops_of, part_of, place_of}
 use Rattle.dom_checks.specs.Scope.{Scope, meant}
-use Rattle.dom_checks.specs.Walk.{Check, check, expr_checks, exprs_count, field_checks, first_fault, index_checks, is_declared, ops_checks, place_checks, stmt_checks, stmts_checks, takes, target_checks, unit_checks}
+use Rattle.dom_checks.specs.Walk.{Check, array_checks, check, expr_checks, exprs_count, field_checks, first_fault, index_checks, is_declared, kept_checks, mention_checks, ops_checks, place_checks, stmt_checks, stmts_checks, takes, target_checks, unit_checks}
 use Rattle.dom_checks.proofs.FirstFaults.{both_hold, faults_behind, first_behind, first_front, first_same}
 use Rattle.dom_checks.proofs.Sound.{expr_sound}
 use Rattle.dom_checks.proofs.SoundStmts.{condition_sound, stmts_sound}
@@ -129,16 +129,16 @@ module _ (g : Bool) (scope : Scope) (before : List Mention) (x : Expr) (e p q : 
 
 module _ (g : Bool) (scope : Scope) (before : List Mention) (p : ℕ) (name : List ℕ) (e : ExprForm) (f : CheckFault) (array_holds : first_fault (array_checks g scope p name) ≡ None) where
   abbrev last_checks : List Check
-  last_checks = second_checks before p (mention (array_number (meant scope name)) (place_of scope e))
+  last_checks = mention_checks before p (mention (array_number (meant scope name)) (place_of scope e))
 
   pub element_place : IsFirst f (place_checks scope e) → IsFirst f (index_checks g scope before p name e)
   element_place h = first_behind f (array_checks g scope p name) (place_checks scope e ++ last_checks) array_holds (first_front f (place_checks scope e) last_checks h)
 
-  pub element_second : (k : ℕ) (i : Place) → k ≡ array_number (meant scope name) → i ≡ place_of scope e → first_fault (place_checks scope e) ≡ None → IsFirst f (second_checks before p (mention k i)) → IsFirst f (index_checks g scope before p name e)
+  pub element_second : (k : ℕ) (i : Place) → k ≡ array_number (meant scope name) → i ≡ place_of scope e → first_fault (place_checks scope e) ≡ None → IsFirst f (mention_checks before p (mention k i)) → IsFirst f (index_checks g scope before p name e)
   element_second k i array index holds h =
       first_behind f (array_checks g scope p name) (place_checks scope e ++ last_checks) array_holds
       (first_behind f (place_checks scope e) last_checks holds
-      (subst (λ (j : Place). IsFirst f (second_checks before p (mention (array_number (meant scope name)) j))) index (subst (λ (n : ℕ). IsFirst f (second_checks before p (mention n i))) array h)))
+      (subst (λ (j : Place). IsFirst f (mention_checks before p (mention (array_number (meant scope name)) j))) index (subst (λ (n : ℕ). IsFirst f (mention_checks before p (mention n i))) array h)))
 
 -- Calls.
 
@@ -185,19 +185,19 @@ module _ (scope : Scope) (numbers : AreNumbers (length scope.arrays) scope.meani
 -- Assignments.
 
 module _ (scope : Scope) (before : List Mention) (t : Target) (b c : List ℕ) (q : ℕ) (f g : List ℕ) (p k : ℕ) (is : t ≡ target.Field b q f) (base : c ≡ b) (name : g ≡ f) (number : k ≡ field_number scope g) (holds : first_fault (field_checks scope p c q g) ≡ None) where
-  field_target : first_fault (target_checks scope before p (target_form t)) ≡ first_fault (later_checks before p k)
+  field_target : first_fault (target_checks scope before p (target_form t)) ≡ first_fault (kept_checks before p k)
   field_target =
       ap (λ (u : Target). first_fault (target_checks scope before p (target_form u))) is
       ∙ ap (λ (n : List ℕ). first_fault (target_checks scope before p (to_field n q f))) (sym base)
       ∙ ap (λ (n : List ℕ). first_fault (target_checks scope before p (to_field c q n))) (sym name)
-      ∙ faults_behind (field_checks scope p c q g) (later_checks before p (field_number scope g)) holds
-      ∙ ap (λ (n : ℕ). first_fault (later_checks before p n)) (sym number)
+      ∙ faults_behind (field_checks scope p c q g) (kept_checks before p (field_number scope g)) holds
+      ∙ ap (λ (n : ℕ). first_fault (kept_checks before p n)) (sym number)
 
-  pub field_target_holds : first_fault (later_checks before p k) ≡ None → first_fault (target_checks scope before p (target_form t)) ≡ None
+  pub field_target_holds : first_fault (kept_checks before p k) ≡ None → first_fault (target_checks scope before p (target_form t)) ≡ None
   field_target_holds h = field_target ∙ h
 
-  pub field_target_fault : (x : CheckFault) → IsFirst x (later_checks before p k) → IsFirst x (target_checks scope before p (target_form t))
-  field_target_fault x h = first_same x (later_checks before p k) (target_checks scope before p (target_form t)) (sym field_target) h
+  pub field_target_fault : (x : CheckFault) → IsFirst x (kept_checks before p k) → IsFirst x (target_checks scope before p (target_form t))
+  field_target_fault x h = first_same x (kept_checks before p k) (target_checks scope before p (target_form t)) (sym field_target) h
 
 module _ (scope : Scope) (before : List Mention) (p : ℕ) (t : TargetForm) (e : ExprForm) where
   pub assign_first : (f : CheckFault) → IsFirst f (expr_checks false scope before e) → IsFirst f (stmt_checks scope before (assign p t e))

@@ -1,16 +1,15 @@
 -- All mentions of an array have one index, as long as each new one has that of the first.
-use Rattle.std.proofs.Common.{◌≡◌, ℕ, Bool, true, false, not, ◌&&◌, ◌||◌, cond, nat_eq, List, [], ◌∷◌, ◌++◌, Option, Some, None, refl, sym, ap, ◌∙◌, subst, ◌⊎◌, inl, inr, arith}
+use Rattle.std.proofs.Common.{◌≡◌, ℕ, Bool, true, false, not, ◌&&◌, ◌||◌, cond, nat_eq, List, [], ◌∷◌, ◌++◌, Option, Some, None, refl, sym, ap, ◌∙◌, subst, ◌⊎◌, inl, inr}
 use Rattle.std.proofs.lemmas.Bool.{and_from, and_parts, cases_Bool, eq-eqb, eqb-true, false_from_ne_true, not_from_false, or_left, or_right, true≢false}
 use Rattle.std.proofs.lemmas.List.Folds.{list_all-append}
 use Rattle.std.proofs.lemmas.Option.{none-some}
-use Rattle.std.specs.List.{find, list_all, list_any}
+use Rattle.std.specs.List.{find, list_all}
 use Rattle.std.specs.Option.{option_map}
 use Rattle.dom_ast.specs.declared.part.Place.{Place}
 use Rattle.dom_ast.specs.declared.part.Place.TheVariants as place
 use Rattle.dom_ast.specs.Kept.{Mention, agree, have_one_index, is_place, mention}
 use Rattle.dom_checks.specs.declared.meant.Meant.{Meant}
-use Rattle.dom_checks.specs.declared.meant.Meant.TheVariants as meaning
-use Rattle.dom_checks.specs.Answers.{are_settled, has_scalar, is_at_word, is_scalar}
+use Rattle.dom_checks.specs.Answers.{are_settled, has_scalar, is_at_word}
 use Rattle.dom_checks.specs.Walk.{first_index, is_same_index}
 
 same_place : (i j : Place) → is_place i j ≡ true → i ≡ j

@@ -1,8 +1,8 @@
 -- What holds of an expression whose checks hold.
 use Rattle.std.proofs.Common.{◌≡◌, ℕ, zero, suc, ◌+◌, ◌<◌, Bool, true, false, not, ◌&&◌, ◌||◌, cond, nat_eq, nat_lt, List, [], ◌∷◌, ◌++◌, length, Option, Some, None, refl, sym, ap, ◌∙◌, subst, append_assoc, inl, inr, arith}
-use Rattle.std.specs.Prelude.{is_some, unwrap_or, position}
+use Rattle.std.specs.Prelude.{unwrap_or}
 use Rattle.std.specs.List.{list_all, list_any, position_or_len, slice_get}
-use Rattle.std.proofs.lemmas.Bool.{and_from, and_parts, cases_Bool, eq-eqb, eqb-true, lt-ltb, not_from_false, or_left, or_right, true≢false}
+use Rattle.std.proofs.lemmas.Bool.{and_from, and_parts, cases_Bool, eq-eqb, eqb-true, lt-ltb, or_left, or_right, true≢false}
 use Rattle.std.proofs.lemmas.List.{append-nil}
 use Rattle.std.proofs.lemmas.Option.{none-some}
 use Rattle.dom_words.specs.declared.hash.HashName.{HashName}
@@ -11,10 +11,8 @@ use Rattle.dom_words.specs.Units.{unit_named}
 use Rattle.dom_ast.specs.declared.part.Place.{Place}
 use Rattle.dom_ast.specs.declared.part.Place.TheVariants as place
 use Rattle.dom_ast.specs.Form.{ExprForm, number, word, field, index, call, un, chain, choice, ExprForms, no_exprs, expr, OpForms, no_ops, op}
-use Rattle.dom_ast.specs.Resolved.{PartForm, PartForms}
-use Rattle.dom_ast.specs.Resolved as tree
+use Rattle.dom_ast.specs.Resolved.{PartForms}
 use Rattle.dom_ast.specs.Kept.{Mention, count_of, mention, ops_mentions, ops_within, part_mentions, part_within, parts_mentions, parts_within, place_within, resolved_ranges}
-use Rattle.dom_checks.specs.declared.faults.CheckFault.{CheckFault}
 use Rattle.dom_checks.specs.declared.faults.CheckFault.TheVariants as fault
 use Rattle.dom_checks.specs.declared.meant.Meant.{Meant}
 use Rattle.dom_checks.specs.declared.meant.Meant.TheVariants as meaning
@@ -22,7 +20,7 @@ use Rattle.dom_checks.specs.Answers.{AreNumbers, are_settled, has_scalar, is_apa
 use Rattle.dom_checks.specs.Kept.{is_numbered}
 use Rattle.dom_checks.specs.Resolve.{array_number, call_part, field_number, name_part, ops_of, part_of, parts_of, place_of}
 use Rattle.dom_checks.specs.Scope.{Scope, meaning_at, meant, is_param}
-use Rattle.dom_checks.specs.Walk.{Check, check, expr_checks, exprs_checks, exprs_count, field_checks, first_fault, first_index, index_checks, is_array, is_declared, is_define, is_hash_name, is_parameter, is_same_index, is_value, ops_checks, place_checks, takes, unit_checks, word_checks}
+use Rattle.dom_checks.specs.Walk.{check, expr_checks, exprs_checks, exprs_count, field_checks, first_fault, first_index, index_checks, is_array, is_declared, is_hash_name, is_parameter, is_same_index, is_value, ops_checks, place_checks, takes, unit_checks}
 use Rattle.dom_checks.proofs.FirstFaults.{at_check, back_holds, front_holds}
 use Rattle.dom_checks.proofs.OneIndex.{scalar_first, settled_more}
 

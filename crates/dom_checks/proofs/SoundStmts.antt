@@ -4,23 +4,21 @@ use Rattle.std.proofs.lemmas.Bool.{and_from, and_parts, true≢false}
 use Rattle.std.proofs.lemmas.Grind.{flat_map-append}
 use Rattle.std.proofs.lemmas.List.{append-nil}
 use Rattle.std.proofs.lemmas.List.Folds.{list_all-append}
-use Rattle.std.proofs.lemmas.Option.{none-some}
 use Rattle.dom_ast.specs.declared.part.Goal.{Goal}
 use Rattle.dom_ast.specs.declared.part.Goal.TheVariants as goal
-use Rattle.dom_ast.specs.declared.part.Place.{Place}
 use Rattle.dom_ast.specs.declared.part.Place.TheVariants as place
-use Rattle.dom_ast.specs.Form.{ExprForm, TargetForm, to_word, to_field, to_index, StmtForm, assign, branch, StmtForms, no_stmts, stmt}
+use Rattle.dom_ast.specs.Form.{TargetForm, to_word, to_field, to_index, StmtForm, assign, branch, StmtForms, no_stmts, stmt}
 use Rattle.dom_ast.specs.Resolved.{PartForm}
-use Rattle.dom_ast.specs.Kept.{Mention, Visit, act_visits, acts_visits, are_within, assignment, changes_none, condition, goal_mentions, goal_within, is_no_index, keep_indexes, mention, mentions_in, part_mentions, part_within, resolved_ranges, target_within, visit_mentions, visit_within}
+use Rattle.dom_ast.specs.Kept.{Mention, Visit, act_visits, acts_visits, are_within, assignment, changes_none, condition, goal_mentions, goal_within, is_no_index, keep_indexes, mention, mentions_in, part_mentions, part_within, resolved_ranges, visit_mentions, visit_within}
 use Rattle.dom_checks.specs.declared.faults.CheckFault.TheVariants as fault
 use Rattle.dom_checks.specs.declared.meant.Meant.{Meant}
 use Rattle.dom_checks.specs.declared.meant.Meant.TheVariants as meaning
 use Rattle.dom_checks.specs.Answers.{AreNumbers, are_settled}
-use Rattle.dom_checks.specs.Resolve.{act_of, acts_of, array_number, field_number, goal_of, part_of, place_of}
+use Rattle.dom_checks.specs.Resolve.{act_of, acts_of, array_number, field_number, goal_of, part_of}
 use Rattle.dom_checks.specs.Scope.{Scope, meant}
-use Rattle.dom_checks.specs.Walk.{Check, check, expr_checks, field_checks, first_fault, index_checks, is_declared, is_hash_name, is_target, stmt_checks, stmts_checks, target_checks}
+use Rattle.dom_checks.specs.Walk.{check, expr_checks, field_checks, first_fault, is_declared, is_hash_name, is_target, stmt_checks, stmts_checks, target_checks}
 use Rattle.dom_checks.proofs.FirstFaults.{at_check, back_holds, front_holds}
-use Rattle.dom_checks.proofs.Sound.{IsSound, IsMeaning, expr_sound, field_inside, index_sound, its_meaning, joined, quiet, word_sound}
+use Rattle.dom_checks.proofs.Sound.{IsSound, IsMeaning, expr_sound, field_inside, index_sound, its_meaning, word_sound}
 
 pub mentions-append : (xs ys : List Visit) → mentions_in (xs ++ ys) ≡ mentions_in xs ++ mentions_in ys
 mentions-append xs ys = flat_map-append visit_mentions xs ys

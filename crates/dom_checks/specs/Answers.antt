@@ -1,5 +1,5 @@
 -- What checks answer, and what they rest on.
-use Rattle.std.specs.Prelude.{◌≡◌, ℕ, ◌<◌, Bool, true, false, not, ◌&&◌, ◌||◌, nat_eq, List, [], ◌∷◌, slice_get, Option, Some, None}
+use Rattle.std.specs.Prelude.{◌≡◌, ℕ, ◌<◌, Bool, true, false, not, ◌&&◌, ◌||◌, nat_eq, List, slice_get, Option, Some}
 use Rattle.std.specs.List.{list_all, list_any}
 use Rattle.dom_ast.specs.declared.part.Place.{Place}
 use Rattle.dom_ast.specs.declared.part.Place.TheVariants as place
@@ -10,8 +10,7 @@ use Rattle.dom_checks.specs.declared.meant.Meant.{Meant}
 use Rattle.dom_checks.specs.declared.meant.Meant.TheVariants as meaning
 use Rattle.dom_checks.specs.declared.seen.Mention.{Mention as Kept}
 use Rattle.dom_checks.specs.Kept.{is_numbered}
-use Rattle.dom_checks.specs.Scope.{Scope, meant}
-use Rattle.dom_checks.specs.Walk.{Check, check, first_fault, first_index, is_array, is_declared, is_hash_name, is_same_index}
+use Rattle.dom_checks.specs.Walk.{Check, first_fault, first_index}
 
 -- the fault is that of the first check that does not hold; of want of memory nothing is said
 abbrev pub IsFirst : CheckFault → List Check → Type 0
@@ -47,22 +46,6 @@ abbrev pub IsPlaceBelow : ℕ → Place → Type 0
 IsPlaceBelow n (place.Word w) = Unit {0}
 IsPlaceBelow n (place.Field f) = f < n
 
--- in a guard the fault is at the name
-abbrev pub IsRefusedIn : Bool → ℕ → CheckFault → Type 0
-IsRefusedIn true p f = f ≡ fault.ShapeOfName p
-IsRefusedIn false p f = f ≡ fault.Memory
-
--- at the name before an index
-abbrev pub array_checks : Bool → Scope → ℕ → List ℕ → List Check
-array_checks in_guard scope p name =
-    check (fault.UnknownName p) (is_declared scope name || is_hash_name name)
-    ∷ check (fault.ShapeOfName p) (is_array (meant scope name) && not in_guard)
-    ∷ []
-
--- at the name after the index is looked at
-abbrev pub second_checks : List Mention → ℕ → Mention → List Check
-second_checks before p m = check (fault.TwoIndexes p) (is_same_index (first_index before m.array) m.index) ∷ []
-
 -- whether a number is that of a scalar
 abbrev pub is_scalar : ℕ → Meant → Bool
 is_scalar k (meaning.Define w) = false
@@ -92,7 +75,3 @@ is_at_word meanings m = not (has_scalar meanings m.array) || is_place m.index (p
 -- all mentions of an array have one index, and scalars are mentioned at their one word
 abbrev pub are_settled : List Meant → List Mention → Bool
 are_settled meanings mentions = have_one_index mentions && list_all (is_at_word meanings) mentions
-
--- at a field that is a target, after its names
-abbrev pub later_checks : List Mention → ℕ → ℕ → List Check
-later_checks before p f = check (fault.IndexAssignedLater p) (is_no_index before f) ∷ []

@@ -13,7 +13,7 @@ use Rattle.dom_ast.specs.declared.program.Length.TheVariants as extent
 use Rattle.dom_ast.specs.declared.program.Init.{Init}
 use Rattle.dom_ast.specs.declared.program.Init.TheVariants as init
 use Rattle.dom_ast.specs.Form.{ExprForm, number, word, field, index, call, un, chain, choice, ExprForms, no_exprs, expr, OpForms, no_ops, op, TargetForm, to_word, to_field, to_index, StmtForm, assign, branch, StmtForms, no_stmts, stmt, TransactionForm, ProgramForm}
-use Rattle.dom_ast.specs.Kept.{Mention, acts_visits, act_visits, is_length, is_no_index, is_place, mentions_in, part_mentions, state_words}
+use Rattle.dom_ast.specs.Kept.{Mention, acts_visits, act_visits, is_length, is_no_index, is_place, mention, mentions_in, part_mentions, state_words}
 use Rattle.dom_checks.specs.declared.faults.CheckFault.{CheckFault}
 use Rattle.dom_checks.specs.declared.faults.CheckFault.TheVariants as fault
 use Rattle.dom_checks.specs.declared.faults.Limit.TheVariants as limit
@@ -166,13 +166,22 @@ abbrev pub is_same_index : Option Place → Place → Bool
 is_same_index None i = true
 is_same_index (Some j) i = is_place j i
 
+-- at `X` of `X[e]`
+abbrev pub array_checks : Bool → Scope → ℕ → List ℕ → List Check
+array_checks in_guard scope p name =
+    check (fault.UnknownName p) (is_declared scope name || is_hash_name name)
+    ∷ check (fault.ShapeOfName p) (is_array (meant scope name) && not in_guard)
+    ∷ []
+
+-- at a mention after others
+abbrev pub mention_checks : List Mention → ℕ → Mention → List Check
+mention_checks before p m = check (fault.TwoIndexes p) (is_same_index (first_index before m.array) m.index) ∷ []
+
 -- at `X[e]`
 abbrev pub index_checks : Bool → Scope → List Mention → ℕ → List ℕ → ExprForm → List Check
 index_checks in_guard scope before p name e =
-    check (fault.UnknownName p) (is_declared scope name || is_hash_name name)
-    ∷ check (fault.ShapeOfName p) (is_array (meant scope name) && not in_guard)
-    ∷ (place_checks scope e
-    ++ check (fault.TwoIndexes p) (is_same_index (first_index before (array_number (meant scope name))) (place_of scope e)) ∷ [])
+    array_checks in_guard scope p name
+    ++ (place_checks scope e ++ mention_checks before p (mention (array_number (meant scope name)) (place_of scope e)))
 
 abbrev pub exprs_count : ExprForms → ℕ
 exprs_count no_exprs = 0
@@ -227,14 +236,18 @@ is_target (Some (meaning.Scalar k)) = true
 is_target (Some (meaning.Array k)) = false
 is_target (Some meaning.Parameter) = false
 
--- at a target, whose statement starts at p; a field may not be an index that was mentioned before
+-- a field may not be assigned to that is an index mentioned before
+abbrev pub kept_checks : List Mention → ℕ → ℕ → List Check
+kept_checks before p f = check (fault.IndexAssignedLater p) (is_no_index before f) ∷ []
+
+-- at a target, whose statement starts at p
 abbrev pub target_checks : Scope → List Mention → ℕ → TargetForm → List Check
 target_checks scope before p (to_word name) =
     check (fault.ShapeOfName p) (not (is_hash_name name) && is_target (meant scope name))
     ∷ check (fault.UnknownName p) (is_declared scope name)
     ∷ []
 target_checks scope before p (to_field base q name) =
-    field_checks scope p base q name ++ check (fault.IndexAssignedLater p) (is_no_index before (field_number scope name)) ∷ []
+    field_checks scope p base q name ++ kept_checks before p (field_number scope name)
 target_checks scope before p (to_index name e) = index_checks false scope before p name e
 
 abbrev pub stmt_mentions : Scope → StmtForm → List Mention

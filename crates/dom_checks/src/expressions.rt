@@ -4,10 +4,10 @@ ghost use Rattle.dom_ast.specs.Form as syntax;
 ghost use Rattle.dom_ast.specs.declared.part.Place.TheVariants as place;
 ghost use Rattle.dom_ast.specs.Resolved as tree;
 ghost use Rattle.dom_ast.specs.Kept.{are_within, guard_visits, is_guard_free, mention, ops_mentions, part_mentions, parts_mentions, resolved_ranges};
-ghost use Rattle.dom_checks.specs.Answers.{AreNumbers, IsFirst, IsPlaceBelow, IsRefusedIn, array_checks, named, second_checks};
+ghost use Rattle.dom_checks.specs.Answers.{AreNumbers, IsFirst, IsPlaceBelow, named};
 ghost use Rattle.dom_checks.specs.Resolve.{array_number, field_number as number_of, guard_of, name_part, ops_of, part_of, parts_of, place_of};
 ghost use Rattle.dom_checks.specs.Scope.{meant};
-ghost use Rattle.dom_checks.specs.Walk.{expr_checks, expr_mentions, exprs_checks, exprs_count, field_checks, first_at as first_token, first_fault, guard_checks, index_checks, is_same_index, ops_checks, place_checks, unit_checks, word_checks};
+ghost use Rattle.dom_checks.specs.Walk.{array_checks, expr_checks, expr_mentions, exprs_checks, exprs_count, field_checks, first_at as first_token, first_fault, guard_checks, index_checks, is_same_index, mention_checks, ops_checks, place_checks, unit_checks, word_checks};
 
 use crate::faults::CheckFault;
 use crate::meant::Meant;
@@ -200,25 +200,13 @@ fn value(
     match scope.meant(name) {
         None => Err(CheckFault::UnknownName(at)),
         Some(Meant::Define(word)) => Ok(Part::Number(word)),
-        Some(Meant::Scalar(array)) => scalar(in_guard, seen, at, array),
-        Some(Meant::Array(_) | Meant::Parameter) => Err(CheckFault::ShapeOfName(at)),
+        Some(Meant::Scalar(array)) if !in_guard => {
+            let index = Place::Word(0);
+            seen.add(Mention { array, index })?;
+            Ok(Part::State { array, index })
+        }
+        Some(_) => Err(CheckFault::ShapeOfName(at)),
     }
-}
-
-/// Mentions a scalar, which no guard may.
-fn scalar(in_guard: bool, seen: &mut Seen, at: u32, array: u32) -> Result<Part, CheckFault>
-    requires { array < 32 }
-    ensures form { IfOk result (λ p. tree.form p ≡ tree.state array (place.Word 0)) }
-    ensures holds { OnOk result (in_guard ≡ false) }
-    ensures seen { OnOk result (seen.new ≡ seen.old ++ mention array (place.Word 0) ∷ []) }
-    ensures fault { IfErr result (λ f. IsRefusedIn in_guard at f) }
-{
-    if in_guard {
-        return Err(CheckFault::ShapeOfName(at));
-    }
-    let index = Place::Word(0);
-    seen.add(Mention { array, index })?;
-    Ok(Part::State { array, index })
 }
 
 /// Checks `X.f` and answers the number of the field.
@@ -361,9 +349,9 @@ fn indexed(seen: &mut Seen, at: u32, mention: Mention) -> Result<Mention, CheckF
     requires array { mention.array < 32 }
     requires field { IsPlaceBelow 64 mention.index }
     ensures same { IfOk result (λ m. m ≡ mention) }
-    ensures holds { OnOk result (first_fault (second_checks seen.old at (named mention)) ≡ None) }
+    ensures holds { OnOk result (first_fault (mention_checks seen.old at (named mention)) ≡ None) }
     ensures seen { OnOk result (seen.new ≡ seen.old ++ named mention ∷ []) }
-    ensures fault { IfErr result (λ f. IsFirst f (second_checks seen.old at (named mention))) }
+    ensures fault { IfErr result (λ f. IsFirst f (mention_checks seen.old at (named mention))) }
 {
     if is_another(seen.first(mention.array), mention.index) {
         return Err(CheckFault::TwoIndexes(at));

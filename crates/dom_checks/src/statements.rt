@@ -3,10 +3,10 @@ ghost use Rattle.dom_ast.specs.Form as syntax;
 ghost use Rattle.dom_ast.specs.Form.{assign, stmt_form, stmt_forms, target_form};
 ghost use Rattle.dom_ast.specs.Resolved.{act_form, act_forms};
 ghost use Rattle.dom_ast.specs.Kept.{acts_visits, are_within, goal_mentions, keep_indexes, resolved_ranges};
-ghost use Rattle.dom_checks.specs.Answers.{AreNumbers, IsFirst, are_settled, later_checks};
+ghost use Rattle.dom_checks.specs.Answers.{AreNumbers, IsFirst, are_settled};
 ghost use Rattle.dom_checks.specs.Resolve.{act_of, acts_of, goal_of};
 ghost use Rattle.dom_ast.specs.declared.part.Goal.TheVariants as goals;
-ghost use Rattle.dom_checks.specs.Walk.{first_fault, stmt_checks, stmt_mentions, stmts_checks, stmts_mentions, target_checks};
+ghost use Rattle.dom_checks.specs.Walk.{first_fault, kept_checks, stmt_checks, stmt_mentions, stmts_checks, stmts_mentions, target_checks};
 
 use crate::expressions::{element, expression, field_number};
 use crate::faults::CheckFault;
@@ -161,8 +161,8 @@ fn scalar_goal(scope: &Scope, seen: &mut Seen, at: u32, name: &[u8]) -> Result<G
 fn field_goal(seen: &Seen, at: u32, number: u32) -> Result<Goal, CheckFault>
     requires { number < 64 }
     ensures goal { IfOk result (λ g. g ≡ goals.Field number) }
-    ensures holds { OnOk result (first_fault (later_checks seen.now at number) ≡ None) }
-    ensures fault { IfErr result (λ f. IsFirst f (later_checks seen.now at number)) }
+    ensures holds { OnOk result (first_fault (kept_checks seen.now at number) ≡ None) }
+    ensures fault { IfErr result (λ f. IsFirst f (kept_checks seen.now at number)) }
 {
     if seen.is_index(number) {
         Err(CheckFault::IndexAssignedLater(at))

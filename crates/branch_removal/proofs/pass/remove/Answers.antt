@@ -1,7 +1,7 @@
 use Rattle.std.proofs.Common.{◌≡◌, ◌≤◌, true, sym, ap, ◌∙◌, subst}
 use Rattle.dom_ast.specs.Kept.{are_lengths, state_words}
 use Rattle.dom_ast.specs.Resolved.{bodies_form}
-use Rattle.branch_removal.proofs.Whole.{names_fit, steps_few, steps_keep, steps_mean, steps_one_index, steps_within}
+use Rattle.branch_removal.proofs.Whole.{names_fit, steps_few, steps_keep, steps_mean, steps_names, steps_one_index, steps_within}
 use Rattle.branch_removal.proofs.pass.remove.Goals as goal
 
 pub steps_of-requires : goal.steps_of-requires
@@ -34,3 +34,7 @@ returns-clause-means c =
 pub returns-clause-few : goal.returns-clause-few
 returns-clause-few c =
     steps_few _ _ _ (record { list = c.in_ok-steps.ensures.list; same = ap bodies_form c.bodies.ensures }) c.requires.size c.requires.nested
+
+pub returns-clause-names : goal.returns-clause-names
+returns-clause-names c =
+    steps_names _ _ _ _ _ _ (record { list = c.in_ok-steps.ensures.list; same = ap bodies_form c.bodies.ensures }) c.in_ok-steps.ensures.fresh c.args.program.now.ranges

@@ -1,10 +1,9 @@
-use Rattle.std.proofs.Common.{◌≡◌, ◌∙◌, length, map, refl, sym, arith}
+use Rattle.std.proofs.Common.{◌≡◌, length, refl, arith}
 use Rattle.std.proofs.lemmas.Option.{slice_get_read}
 use Rattle.std.proofs.lemmas.Result.{IfOk-weaker}
 use Rattle.dom_ast.specs.declared.part.Part.{Part}
 use Rattle.dom_ast.specs.Form.{form, op_forms}
 use Rattle.dom_ast.specs.Resolved as tree
-use Rattle.dom_checks.specs.Resolve.{part_of}
 use Rattle.dom_checks.proofs.Arms.{always, as_chain, as_choice, chain_first, chain_form, chain_holds, chain_rest, chain_seen, choice_first, choice_holds, choice_second, choice_seen, choice_third, same_operand}
 use Rattle.dom_checks.proofs.Walked.{args_fault, args_form, args_more, ops_fault, ops_form, ops_more}
 use Rattle.dom_checks.proofs.expressions.+expressions.Goals as goal

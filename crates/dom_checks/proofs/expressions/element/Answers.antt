@@ -1,7 +1,5 @@
 use Rattle.std.proofs.lemmas.Result.{IfErr-weaker}
 use Rattle.dom_ast.specs.Form.{form}
-use Rattle.dom_checks.specs.Answers.{IsFirst, named, second_checks}
-use Rattle.dom_checks.specs.Walk.{index_checks}
 use Rattle.dom_checks.proofs.Arms.{element_place, element_second}
 use Rattle.dom_checks.proofs.expressions.element.Goals as goal
 

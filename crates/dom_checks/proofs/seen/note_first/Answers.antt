@@ -1,4 +1,4 @@
-use Rattle.std.proofs.Common.{◌≡◌, ◌<◌, length, Some, None, ap, ◌∙◌, arith}
+use Rattle.std.proofs.Common.{◌<◌, length, Some, None, ap, ◌∙◌, arith}
 use Rattle.std.proofs.lemmas.Option.{slice_get-get_or}
 use Rattle.dom_checks.specs.Answers.{named}
 use Rattle.dom_checks.proofs.Tables.{firsts_added, firsts_kept}

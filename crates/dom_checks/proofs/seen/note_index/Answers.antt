@@ -1,4 +1,4 @@
-use Rattle.std.proofs.Common.{◌≡◌, ◌<◌, true, ◌++◌, ◌∷◌, [], length, sym, subst, slice_set, arith}
+use Rattle.std.proofs.Common.{◌<◌, true, ◌++◌, ◌∷◌, [], length, sym, subst, slice_set, arith}
 use Rattle.dom_ast.specs.declared.part.Place.{Place}
 use Rattle.dom_ast.specs.Kept.{mention}
 use Rattle.dom_checks.specs.Answers.{AreIndexes, IsPlaceBelow}
