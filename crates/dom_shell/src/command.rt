@@ -1,30 +1,47 @@
 ghost use Rattle.std.specs.Prelude.{◌≡◌, option_map};
-ghost use Rattle.dom_shell.specs.Command.{files_named, texts_of};
-ghost use Rattle.dom_shell.specs.CommandNames.{names_of_run};
+ghost use Rattle.dom_shell.specs.Command.{command_of, texts_of};
+ghost use Rattle.dom_shell.specs.CommandForm.{command_in};
 
 /// The files that a command names.
 #[derive(Clone, Copy, Drop)]
-pub(crate) struct RunFiles<'a> {
+pub(crate) struct Files<'a> {
     /// The name of the program's file.
     pub(crate) program: &'a str,
     /// The name of the trace's file.
     pub(crate) trace: &'a str,
 }
 
-/// The files that `run raw-small PROGRAM TRACE` names; `None` where the words are of no form that is built.
-pub(crate) fn run_files(words: &[String]) -> Option<RunFiles<'_>>
-    ensures { option_map names_of_run result ≡ files_named (texts_of words.entry.now) }
+/// What the words ask for.
+#[derive(Clone, Copy, Drop)]
+pub(crate) enum Command<'a> {
+    /// The program on its pipeline.
+    Run(Files<'a>),
+    /// The program run serially.
+    Serial(Files<'a>),
+}
+
+/// The command that the words spell, `run raw-small PROGRAM TRACE` or `serial PROGRAM TRACE`; `None` where they are of no
+/// form that is built.
+pub(crate) fn read_words(words: &[String]) -> Option<Command<'_>>
+    ensures { option_map command_in result ≡ command_of (texts_of words.entry.now) }
 {
     match words {
+        [command, program, trace]
+            if command.as_str() == "serial" && !program.is_empty() && !trace.is_empty() => {
+            Some(Command::Serial(Files {
+                program: program.as_str(),
+                trace: trace.as_str(),
+            }))
+        }
         [command, target, program, trace]
             if command.as_str() == "run"
                 && target.as_str() == "raw-small"
                 && !program.is_empty()
                 && !trace.is_empty() => {
-            Some(RunFiles {
+            Some(Command::Run(Files {
                 program: program.as_str(),
                 trace: trace.as_str(),
-            })
+            }))
         }
         _ => None,
     }

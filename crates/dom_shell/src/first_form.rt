@@ -5,8 +5,7 @@ ghost use Rattle.std.specs.List.{list_all};
 ghost use Rattle.dom_shell.specs.Runs.{candidates, word_run};
 ghost use Rattle.dom_shell.specs.FormNames.{names_of};
 
-/// The most bytes that a program may have.
-pub(crate) const MOST_PROGRAM_BYTES: usize = 65536;
+use crate::reading::MOST_PROGRAM_BYTES;
 
 /// The names of a program of the first form (docs/LANGUAGE.md, "What runs today").
 #[derive(Clone, Copy, Drop)]

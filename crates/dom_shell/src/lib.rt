@@ -4,11 +4,17 @@
 mod call;
 mod clocking;
 mod command;
+mod commands;
 mod first_form;
 pub mod laws;
 mod machine;
 mod prepare;
+mod prepare_serial;
+mod reading;
+mod refusals;
 mod report;
+mod serial_report;
+mod source;
 #[cfg(test)]
 mod tests;
 

@@ -61,16 +61,34 @@ fn answer(
     Ok(Given { status, held })
 }
 
-// What a run gives where nothing fails.
-fn run(alloc: Global, program: &str, trace: &str) -> Result<Given, Memory> {
+// What a command gives over a program and a trace, where nothing fails.
+fn given(alloc: Global, command: &str, program: &str, trace: &str) -> Result<Given, Memory> {
     let files = files_of(alloc, program, trace)?;
-    answer(
-        alloc,
-        "run raw-small p t",
-        files,
-        Vec::new(alloc),
-        Vec::new(alloc),
-    )
+    answer(alloc, command, files, Vec::new(alloc), Vec::new(alloc))
+}
+
+fn run(alloc: Global, program: &str, trace: &str) -> Result<Given, Memory> {
+    given(alloc, "run raw-small p t", program, trace)
+}
+
+fn serial(alloc: Global, program: &str, trace: &str) -> Result<Given, Memory> {
+    given(alloc, "serial p t", program, trace)
+}
+
+// The parts, one after another, the second of them so many times.
+fn text_of(
+    alloc: Global,
+    first: &str,
+    repeated: &str,
+    last: &str,
+    count: usize,
+) -> Result<String, Memory> {
+    let mut text = String::from_str(alloc, first).map_err(|_| Memory)?;
+    for _k in 0..count {
+        text.push_str(repeated).map_err(|_| Memory)?;
+    }
+    text.push_str(last).map_err(|_| Memory)?;
+    Ok(text)
 }
 
 #[test]
@@ -124,22 +142,36 @@ void acc(struct Packet pkt) { hash5 = hash5 + pkt.hash1; pkt._b2 = hash5; }
 
 #[test]
 fn refused_traces(rt: HostRuntime) -> Result<(), Fail> {
-    let traces = [
-        "",
-        "ga",
-        "gap,y\n",
-        "gap,x,x\n",
-        "gap,x\n0\n",
-        "gap,x\n0,\n",
-        "gap,x\n-1,5\n",
-        "gap,x\n0,4294967296\n",
-        "gap,x\n1999996,1\n",
+    let rows = [
+        ("", "refused,trace,no-header\n"),
+        ("\n\n", "refused,trace,no-header\n"),
+        ("ga", "refused,trace,unknown-column,1\n"),
+        ("gap,y\n", "refused,trace,unknown-column,2\n"),
+        ("gap,x,sum,x\n", "refused,trace,column-twice,4\n"),
+        ("gap,x\n0\n", "refused,trace,row-length,1\n"),
+        ("gap,x\n0,1\n0,1,1\n", "refused,trace,row-length,2\n"),
+        ("gap,x\n0,\n", "refused,trace,value,1,2\n"),
+        ("gap,x\n\n0,1\n-1,5\n", "refused,trace,value,2,1\n"),
+        ("gap,x\n0,4294967296\n", "refused,trace,value,1,2\n"),
     ];
-    for trace in traces {
-        let given = run(rt.alloc(), PROGRAM, trace)?;
-        assert_eq!(rt; given.status, 3);
-        assert_eq!(rt; given.held.as_slice(), b"refused,trace\n".as_slice());
+    for (trace, line) in rows {
+        let clocked = run(rt.alloc(), PROGRAM, trace)?;
+        assert_eq!(rt; clocked.status, 3);
+        assert_eq!(rt; clocked.held.as_slice(), line.as_bytes());
+        let in_turn = serial(rt.alloc(), PROGRAM, trace)?;
+        assert_eq!(rt; in_turn.status, 3);
+        assert_eq!(rt; in_turn.held.as_slice(), line.as_bytes());
     }
+    let clocked = run(rt.alloc(), PROGRAM, "gap,x\n1999996,1\n")?;
+    assert_eq!(rt;
+        clocked.held.as_slice(),
+        b"refused,trace,cycles,2000001\n".as_slice()
+    );
+    let in_turn = serial(rt.alloc(), PROGRAM, "gap,x\n2000000,1\n")?;
+    assert_eq!(rt;
+        in_turn.held.as_slice(),
+        b"refused,trace,cycles,2000001\n".as_slice()
+    );
     Ok(())
 }
 
@@ -150,7 +182,9 @@ fn refused_words(rt: HostRuntime) -> Result<(), Fail> {
         "run",
         "run raw-tiny p t",
         "run raw-small p",
-        "serial p t",
+        "serial p",
+        "serial p t u",
+        "serial raw-small p t",
         "run raw-small p t u",
     ];
     for line in lines {
@@ -165,32 +199,353 @@ fn refused_words(rt: HostRuntime) -> Result<(), Fail> {
 
 #[test]
 fn third_put_fails(rt: HostRuntime) -> Result<(), Fail> {
-    let files = files_of(rt.alloc(), PROGRAM, TRACE)?;
-    let failing = vec![in rt.alloc(); (3, 2)]?;
-    let given = answer(
-        rt.alloc(),
-        "run raw-small p t",
-        files,
-        Vec::new(rt.alloc()),
-        failing,
-    )?;
-    assert_eq!(rt; given.status, 5);
-    assert_eq!(rt; given.held.as_slice(), b"cycle,x,sum\n4,5,5\n7,".as_slice());
+    let rows = [
+        ("run raw-small p t", "cycle,x,sum\n4,5,5\n7,"),
+        ("serial p t", "packet,x,sum\n1,5,5\n2,"),
+    ];
+    for (command, held) in rows {
+        let files = files_of(rt.alloc(), PROGRAM, TRACE)?;
+        let failing = vec![in rt.alloc(); (3, 2)]?;
+        let given = answer(rt.alloc(), command, files, Vec::new(rt.alloc()), failing)?;
+        assert_eq!(rt; given.status, 5);
+        assert_eq!(rt; given.held.as_slice(), held.as_bytes());
+    }
     Ok(())
 }
 
 #[test]
 fn second_read_fails(rt: HostRuntime) -> Result<(), Fail> {
-    let files = files_of(rt.alloc(), PROGRAM, TRACE)?;
-    let failing = vec![in rt.alloc(); 2]?;
-    let given = answer(
-        rt.alloc(),
-        "run raw-small p t",
-        files,
-        failing,
-        Vec::new(rt.alloc()),
-    )?;
-    assert_eq!(rt; given.status, 4);
-    assert_eq!(rt; given.held.as_slice(), b"".as_slice());
+    for command in ["run raw-small p t", "serial p t"] {
+        let files = files_of(rt.alloc(), PROGRAM, TRACE)?;
+        let failing = vec![in rt.alloc(); 2]?;
+        let given = answer(rt.alloc(), command, files, failing, Vec::new(rt.alloc()))?;
+        assert_eq!(rt; given.status, 4);
+        assert_eq!(rt; given.held.as_slice(), b"".as_slice());
+    }
+    Ok(())
+}
+
+// What stands before a body, and before the condition of a guard: 78 and 80 bytes.
+const BODY: &str = "#define K 1 struct P { int x; int y; }; int s; int a[8]; void f(struct P p) { ";
+
+const GUARD: &str =
+    "#define K 1 struct P { int x; int y; }; int s; int a[8]; void f(struct P p) if (";
+
+// 64 fields, and 32 globals.
+const FIELDS: &str =
+    "struct P { int f0; int f1; int f2; int f3; int f4; int f5; int f6; int f7; int f8; int f9; int f10; int f11; int f12; int f13; int f14; int f15; int f16; int f17; int f18; int f19; int f20; int f21; int f22; int f23; int f24; int f25; int f26; int f27; int f28; int f29; int f30; int f31; int f32; int f33; int f34; int f35; int f36; int f37; int f38; int f39; int f40; int f41; int f42; int f43; int f44; int f45; int f46; int f47; int f48; int f49; int f50; int f51; int f52; int f53; int f54; int f55; int f56; int f57; int f58; int f59; int f60; int f61; int f62; int f63; ";
+
+const GLOBALS: &str =
+    "struct P { int x; }; int g0; int g1; int g2; int g3; int g4; int g5; int g6; int g7; int g8; int g9; int g10; int g11; int g12; int g13; int g14; int g15; int g16; int g17; int g18; int g19; int g20; int g21; int g22; int g23; int g24; int g25; int g26; int g27; int g28; int g29; int g30; int g31; ";
+
+#[test]
+fn serial_reports(rt: HostRuntime) -> Result<(), Fail> {
+    let rows = [
+        (
+            PROGRAM,
+            TRACE,
+            "packet,x,sum\n1,5,5\n2,7,12\nstate,total,0,12\ndone,2\n",
+        ),
+        (PROGRAM, "gap,x\n", "packet,x,sum\ndone,0\n"),
+        (PROGRAM, "gap\n1999999\n", "packet,x,sum\n1,0,0\ndone,1\n"),
+        (
+            "struct P { int k; int x; };
+int a;
+int b;
+void one(struct P p) if (p.k == 0) { a = a + p.x; p.k = 1; }
+void two(struct P p) if (p.k == 0) { b = b + 1; }
+",
+            "gap,k,x\n0,0,5\n0,2,7\n",
+            "packet,k,x\n1,1,5\n2,2,7\nstate,a,0,5\nstate,b,0,1\ndone,2\n",
+        ),
+        (
+            "struct P { int x; }; int s; void f(struct P pkt) { pkt.x = 2 + 3 * 4 << 1 | 1 == 1; }",
+            "gap\n0\n",
+            "packet,x\n1,29\ndone,1\n",
+        ),
+        (
+            "struct P { int x; }; int s; void f(struct P pkt) { pkt.x = 10 - 4 - 3; }",
+            "gap\n0\n",
+            "packet,x\n1,3\ndone,1\n",
+        ),
+        (
+            "struct P { int x; }; int s; void f(struct P pkt) { pkt.x = hash1(pkt.x); }",
+            "gap\n0\n",
+            "packet,x\n1,303091727\ndone,1\n",
+        ),
+        (
+            "struct P { int x; }; int a[3] = -2; int b[1]; void f(struct P p) { a[p.x] = 0; } void g(struct P p) { p.x = p.x * 2; b[0] = p.x; }",
+            "gap,x\n0,-2\n",
+            "packet,x\n1,-4\nstate,a,0,-2\nstate,a,1,-2\nstate,b,0,-4\ndone,1\n",
+        ),
+        (
+            "#define K 1 struct P { int x; }; int a[8]; void f(struct P p) { a[K] = a[1] + 1; a[1] = a[0x1]; }",
+            "gap\n0\n",
+            "packet,x\n1,0\nstate,a,1,1\ndone,1\n",
+        ),
+        (
+            "struct P { int x; }; int a[8]; void f(struct P p) { a[-1] = p.x; }",
+            "gap,x\n0,3\n",
+            "packet,x\n1,3\nstate,a,7,3\ndone,1\n",
+        ),
+    ];
+    for (program, trace, report) in rows {
+        let given = serial(rt.alloc(), program, trace)?;
+        assert_eq!(rt; given.status, 0);
+        assert_eq!(rt; given.held.as_slice(), report.as_bytes());
+    }
+    Ok(())
+}
+
+#[test]
+fn refused_programs(rt: HostRuntime) -> Result<(), Fail> {
+    let rows = [
+        ("", "@", "refused,lex,bad-byte,0\n"),
+        (
+            "",
+            "struct P { int x; }; /*",
+            "refused,lex,open-comment,21\n",
+        ),
+        (BODY, "s = 4294967296; }", "refused,lex,big-literal,82\n"),
+        ("", "", "refused,parse,unexpected,0\n"),
+        (BODY, "while (p.x) { } }", "refused,parse,forbidden,78\n"),
+        (BODY, "s = 1 }", "refused,parse,unexpected,84\n"),
+        (BODY, "s = q; @", "refused,lex,bad-byte,85\n"),
+        (BODY, "s = q; s", "refused,parse,unexpected,86\n"),
+        (
+            "",
+            "struct P { int x; }; int s; int s; void f(struct P p) { }",
+            "refused,check,twice,32\n",
+        ),
+        (
+            "",
+            "#define s 1 #define s 1 struct P { int x; };  void f(struct P p) { }",
+            "refused,check,twice,20\n",
+        ),
+        (
+            "",
+            "#define hash4h 1 struct P { int x; };  void f(struct P p) { }",
+            "refused,check,shape-of-name,8\n",
+        ),
+        (
+            "",
+            "struct P { int x; }; int hash1; void f(struct P p) { }",
+            "refused,check,shape-of-name,25\n",
+        ),
+        (
+            GLOBALS,
+            "int hash1; void f(struct P p) { }",
+            "refused,check,shape-of-name,303\n",
+        ),
+        (
+            GLOBALS,
+            "int g0; void f(struct P p) { }",
+            "refused,check,twice,303\n",
+        ),
+        (
+            GLOBALS,
+            "int g[q]; void f(struct P p) { }",
+            "refused,check,too-large-arrays,303\n",
+        ),
+        (
+            "",
+            "struct P { int x; int x; }; void f(struct P p) { }",
+            "refused,check,twice,22\n",
+        ),
+        (
+            FIELDS,
+            "int f0; }; void f(struct P p) { }",
+            "refused,check,twice,581\n",
+        ),
+        (
+            FIELDS,
+            "int f; }; void f(struct P p) { }",
+            "refused,check,too-large-fields,581\n",
+        ),
+        (
+            "",
+            "struct P { int x; }; int s[0] = q; void f(struct P p) { }",
+            "refused,check,too-large-length,25\n",
+        ),
+        (
+            "",
+            "struct P { int x; }; int s[1048577]; void f(struct P p) { }",
+            "refused,check,too-large-length,25\n",
+        ),
+        (
+            "",
+            "#define N -1 struct P { int x; }; int s[N]; void f(struct P p) { }",
+            "refused,check,too-large-length,38\n",
+        ),
+        (
+            "",
+            "struct P { int x; }; int s[1048576]; int t = q; void f(struct P p) { }",
+            "refused,check,too-large-words,41\n",
+        ),
+        (
+            "",
+            "struct P { int x; }; int s[q] = r; void f(struct P p) { }",
+            "refused,check,unknown-name,27\n",
+        ),
+        (
+            "",
+            "struct P { int x; }; int s[hash1]; void f(struct P p) { }",
+            "refused,check,unknown-name,27\n",
+        ),
+        (
+            "",
+            "struct P { int x; }; int s[s]; void f(struct P p) { }",
+            "refused,check,shape-of-name,27\n",
+        ),
+        (
+            "",
+            "struct P { int x; }; int s; int t[s] = q; void f(struct P p) { }",
+            "refused,check,shape-of-name,34\n",
+        ),
+        (
+            "",
+            "struct P { int x; }; int s = q; void f(struct P p) { }",
+            "refused,check,unknown-name,29\n",
+        ),
+        (
+            "",
+            "struct P { int x; }; int s = hash1; void f(struct P p) { }",
+            "refused,check,unknown-name,29\n",
+        ),
+        (
+            "",
+            "struct P { int x; }; int s = {s}; void f(struct P p) { }",
+            "refused,check,shape-of-name,30\n",
+        ),
+        (
+            "",
+            "struct P { int x; }; int p; void f(struct Q p) { }",
+            "refused,check,unknown-name,42\n",
+        ),
+        (
+            "",
+            "struct P { int x; }; int p; void f(struct P p) { }",
+            "refused,check,twice,44\n",
+        ),
+        (
+            "",
+            "struct P { int x; }; void f(struct P hash1) { }",
+            "refused,check,shape-of-name,37\n",
+        ),
+        (
+            "",
+            "struct P { int x; }; void f(struct P p) { } void g(struct P p) { p.y = 1; }",
+            "refused,check,unknown-name,67\n",
+        ),
+        (
+            "",
+            "struct P { int x; }; void f(struct P p) { } void g(struct P q) { q.x = p.x; }",
+            "refused,check,unknown-name,71\n",
+        ),
+        (BODY, "s = q.x; }", "refused,check,unknown-name,82\n"),
+        (BODY, "s = hash1.x; }", "refused,check,unknown-name,82\n"),
+        (BODY, "s = s.z; }", "refused,check,shape-of-name,82\n"),
+        (BODY, "s = p.z; }", "refused,check,unknown-name,84\n"),
+        (BODY, "s = hash1; }", "refused,check,shape-of-name,82\n"),
+        (BODY, "s = a; }", "refused,check,shape-of-name,82\n"),
+        (BODY, "s = p; }", "refused,check,shape-of-name,82\n"),
+        (BODY, "s = q; }", "refused,check,unknown-name,82\n"),
+        (BODY, "r = q; }", "refused,check,unknown-name,82\n"),
+        (BODY, "q = 1; }", "refused,check,unknown-name,78\n"),
+        (BODY, "K = 1; }", "refused,check,shape-of-name,78\n"),
+        (BODY, "a = 1; }", "refused,check,shape-of-name,78\n"),
+        (BODY, "p = 1; }", "refused,check,shape-of-name,78\n"),
+        (BODY, "hash1 = 1; }", "refused,check,shape-of-name,78\n"),
+        (BODY, "q.x = 1; }", "refused,check,unknown-name,78\n"),
+        (BODY, "s = q[r]; }", "refused,check,unknown-name,82\n"),
+        (BODY, "s = s[q]; }", "refused,check,shape-of-name,82\n"),
+        (BODY, "s = K[0]; }", "refused,check,shape-of-name,82\n"),
+        (BODY, "s = hash1[0]; }", "refused,check,shape-of-name,82\n"),
+        (BODY, "hash1[0] = 1; }", "refused,check,shape-of-name,78\n"),
+        (BODY, "s = a[q]; }", "refused,check,unknown-name,84\n"),
+        (BODY, "s = a[hash1]; }", "refused,check,unknown-name,84\n"),
+        (BODY, "s = a[s]; }", "refused,check,bad-index,84\n"),
+        (BODY, "s = a[p]; }", "refused,check,bad-index,84\n"),
+        (BODY, "s = a[q.x]; }", "refused,check,unknown-name,84\n"),
+        (BODY, "s = a[s.x]; }", "refused,check,shape-of-name,84\n"),
+        (BODY, "s = a[p.z]; }", "refused,check,unknown-name,86\n"),
+        (
+            BODY,
+            "s = a[((p.x) + 1)]; }",
+            "refused,check,bad-index,86\n",
+        ),
+        (BODY, "s = a[-(1)]; }", "refused,check,bad-index,84\n"),
+        (BODY, "s = a[hash1(1)]; }", "refused,check,bad-index,84\n"),
+        (
+            BODY,
+            "s = a[0]; s = a[1 + 1]; }",
+            "refused,check,bad-index,94\n",
+        ),
+        (BODY, "s = a[0] + a[8]; }", "refused,check,two-indexes,89\n"),
+        (
+            BODY,
+            "a[p.x] = 1; if (a[p.x]) { } else { a[p.y] = 2; } }",
+            "refused,check,two-indexes,113\n",
+        ),
+        (
+            BODY,
+            "a[K] = a[1]; } void g(struct P q) { a[q.x] = 2; }",
+            "refused,check,two-indexes,114\n",
+        ),
+        (BODY, "s = q(r); }", "refused,check,unknown-name,82\n"),
+        (BODY, "s = s(q); }", "refused,check,shape-of-name,82\n"),
+        (BODY, "s = p(); }", "refused,check,shape-of-name,82\n"),
+        (BODY, "s = hash2(q); }", "refused,check,hash-args,82\n"),
+        (BODY, "s = hash1(); }", "refused,check,hash-args,82\n"),
+        (BODY, "s = hash1(q); }", "refused,check,unknown-name,88\n"),
+        (
+            BODY,
+            "p.x = a[p.x]; }",
+            "refused,check,index-assigned-later,78\n",
+        ),
+        (
+            BODY,
+            "a[p.x] = 1; p.z = 1; }",
+            "refused,check,unknown-name,92\n",
+        ),
+        (
+            BODY,
+            "a[p.x] = 1; } void g(struct P q) { q.y = 1; q.x = 1; }",
+            "refused,check,index-assigned-later,122\n",
+        ),
+        (GUARD, "s) { }", "refused,check,shape-of-name,80\n"),
+        (GUARD, "a[q]) { }", "refused,check,shape-of-name,80\n"),
+        (GUARD, "q[s]) { }", "refused,check,unknown-name,80\n"),
+        (
+            GUARD,
+            "p.x + q) { r = 1; }",
+            "refused,check,unknown-name,86\n",
+        ),
+        (GUARD, "hash1(a)) { }", "refused,check,shape-of-name,86\n"),
+    ];
+    for (head, rest, line) in rows {
+        let program = text_of(rt.alloc(), head, "", rest, 0)?;
+        let given = serial(rt.alloc(), program.as_str(), "no trace")?;
+        assert_eq!(rt; given.status, 1, "for {rest}");
+        assert_eq!(rt; given.held.as_slice(), line.as_bytes(), "for {rest}");
+    }
+    Ok(())
+}
+
+#[test]
+fn long_programs(rt: HostRuntime) -> Result<(), Fail> {
+    let value = "struct P { int x; }; int s; void f(struct P pkt) { s = ";
+    let rows = [
+        ("", " ", "", 65536, "refused,parse,unexpected,65536\n"),
+        ("", " ", "", 65537, "refused,limit,program\n"),
+        ("", ";", "", 16385, "refused,lex,too-many-tokens,16384\n"),
+        (value, "(", "1", 64, "refused,parse,too-nested,118\n"),
+    ];
+    for (first, repeated, last, count, line) in rows {
+        let program = text_of(rt.alloc(), first, repeated, last, count)?;
+        let given = serial(rt.alloc(), program.as_str(), "no trace")?;
+        assert_eq!(rt; given.status, 1);
+        assert_eq!(rt; given.held.as_slice(), line.as_bytes());
+    }
     Ok(())
 }
