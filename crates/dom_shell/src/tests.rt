@@ -62,17 +62,17 @@ fn answer(
 }
 
 // What a command gives over a program and a trace, where nothing fails.
-fn given(alloc: Global, command: &str, program: &str, trace: &str) -> Result<Given, Memory> {
+fn answered(alloc: Global, command: &str, program: &str, trace: &str) -> Result<Given, Memory> {
     let files = files_of(alloc, program, trace)?;
     answer(alloc, command, files, Vec::new(alloc), Vec::new(alloc))
 }
 
 fn run(alloc: Global, program: &str, trace: &str) -> Result<Given, Memory> {
-    given(alloc, "run raw-small p t", program, trace)
+    answered(alloc, "run raw-small p t", program, trace)
 }
 
 fn serial(alloc: Global, program: &str, trace: &str) -> Result<Given, Memory> {
-    given(alloc, "serial p t", program, trace)
+    answered(alloc, "serial p t", program, trace)
 }
 
 // The parts, one after another, the second of them so many times.
