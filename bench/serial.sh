@@ -85,7 +85,8 @@ done
 # The longest programs: as many bytes and as many tokens as are allowed.
 head='struct P { int x; }; int s; void f(struct P pkt) { '
 { printf '%s' "$head"; for ((k = 0; k < 4087; k++)); do printf 's=s;'; done; printf '}'; } >tokens.dom
-{ printf '%s' "$head"; for ((k = 0; k < 4080; k++)); do printf 's=123456789;'; done; printf '}'; } >bytes.dom
+{ printf '%s' "$head"; for ((k = 0; k < 2720; k++)); do printf 's = s + 123456789 ;     '; done; printf '}'; } >bytes.dom
+printf "%$((65536 - $(wc -c <bytes.dom)))s" '' >>bytes.dom
 { printf '%s' "$head"; printf 's=1'; for ((k = 0; k < 8170; k++)); do printf '+s'; done; printf ';}'; } >chain.dom
 printf 'gap\n' >none.csv
 printf '\n%-12s %9s %10s %9s\n' program bytes 'domino s' 'peak MiB'
