@@ -274,9 +274,9 @@ void two(struct P p) if (p.k == 0) { b = b + 1; }
             "packet,x\n1,303091727\ndone,1\n",
         ),
         (
-            "struct P { int x; }; int a[3] = -2; int b[1]; void f(struct P p) { a[p.x] = 0; } void g(struct P p) { p.x = p.x * 2; b[0] = p.x; }",
-            "gap,x\n0,-2\n",
-            "packet,x\n1,-4\nstate,a,0,-2\nstate,a,1,-2\nstate,b,0,-4\ndone,1\n",
+            "struct P { int i; int x; }; int a[3] = -2; int b[1]; void f(struct P p) { a[p.i] = 0; } void g(struct P p) { p.x = p.x * 2; b[0] = p.x; }",
+            "gap,i,x\n0,-2,-2\n",
+            "packet,i,x\n1,-2,-4\nstate,a,0,-2\nstate,a,1,-2\nstate,b,0,-4\ndone,1\n",
         ),
         (
             "#define K 1 struct P { int x; }; int a[8]; void f(struct P p) { a[K] = a[1] + 1; a[1] = a[0x1]; }",
