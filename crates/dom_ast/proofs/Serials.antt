@@ -8,7 +8,7 @@ use Rattle.std.proofs.lemmas.List.Folds.{list_all-append, list_all-map}
 use Rattle.std.specs.List.{filter, list_all}
 use Rattle.std.specs.Prelude.{Box}
 use Rattle.std.specs.declared.alloc.Global.{Global}
-use Rattle.dom_words.specs.State.{Hash, IsStateOf, array_of, started}
+use Rattle.dom_words.specs.State.{Hash, IsStateOf, are_lengths, array_of, is_length, started}
 use Rattle.dom_words.specs.declared.array.Array.{Array}
 use Rattle.dom_words.specs.declared.hash.HashName.{HashName}
 use Rattle.dom_words.specs.declared.operators.BinOp.{BinOp}
@@ -16,7 +16,7 @@ use Rattle.dom_ast.specs.declared.checked.Act.{Act}
 use Rattle.dom_ast.specs.declared.part.Part.{Part}
 use Rattle.dom_ast.specs.declared.part.Part.TheViews.{Chain}
 use Rattle.dom_ast.proofs.PartForms.{form_chain}
-use Rattle.dom_ast.specs.Kept.{Ranges, act_visits, acts_visits, are_lengths, are_within, bodies_visits, count_of, goal_within, guard_visits, is_length, resolved_ranges, visit_within, ops_within, part_within, parts_within}
+use Rattle.dom_ast.specs.Kept.{Ranges, act_visits, acts_visits, are_within, bodies_visits, count_of, goal_within, guard_visits, resolved_ranges, visit_within, ops_within, part_within, parts_within}
 use Rattle.dom_ast.specs.Meaning.{Env, all_acted, all_chosen, entering, folded, is_chosen, names_in, one, value_in}
 use Rattle.dom_ast.specs.Resolved.{PartForm, ActForm, assign, branch, ActForms, no_acts, act, BodyForm, act_form, act_forms, bodies_form, body_form, guard_form, call, form, forms, op_forms}
 use Rattle.dom_ast.specs.Serial.{act_within, acts_within, IsPlaceOf, all_run, are_filled, bodies_within, guard_within, picked, ranges_over}

@@ -1,24 +1,11 @@
 -- What holds of a resolved program and of the lists that the passes make of it.
-use Rattle.std.specs.Prelude.{ℕ, zero, suc, ◌+◌, Bool, true, false, not, ◌&&◌, ◌||◌, nat_eq, nat_lt, nat_le, List, [], ◌∷◌, ◌++◌, flat_map, map, sum, Option, Some, None}
+use Rattle.std.specs.Prelude.{ℕ, suc, ◌+◌, Bool, true, false, not, ◌&&◌, ◌||◌, nat_eq, nat_lt, List, [], ◌∷◌, ◌++◌, flat_map, Option, Some, None}
 use Rattle.std.specs.List.{list_all}
-use Rattle.dom_words.specs.declared.array.Array.{Array}
-use Rattle.dom_words.specs.declared.hash.HashName.{HashName}
 use Rattle.dom_ast.specs.declared.part.Place.{Place}
 use Rattle.dom_ast.specs.declared.part.Place.TheVariants as place
 use Rattle.dom_ast.specs.declared.part.Goal.{Goal}
 use Rattle.dom_ast.specs.declared.part.Goal.TheVariants as goal
 use Rattle.dom_ast.specs.Resolved.{PartForm, number, field, state, fresh, made, call, un, chain, choice, PartForms, no_parts, part, OpForms, no_ops, op, ActForm, assign, branch, ActForms, no_acts, act, BodyForm}
-
--- an array has 1 to 1,048,576 words
-abbrev pub is_length : ℕ → Bool
-is_length n = nat_le 1 n && nat_le n 1048576
-
-abbrev pub are_lengths : List Array → Bool
-are_lengths arrays = list_all (λ array. is_length array.length) arrays
-
--- the words of all arrays
-abbrev pub state_words : List Array → ℕ
-state_words arrays = sum (map (λ array. array.length) arrays)
 
 -- What a walk through a program comes to, in order: a value, and the target that it is assigned to; a condition has none.
 pub record Visit : Type 0 where

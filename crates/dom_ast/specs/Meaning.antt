@@ -1,5 +1,5 @@
 -- What a program does to a packet and to the state.
-use Rattle.std.specs.Prelude.{◌≡◌, ℕ, ◌==◌, Bool, true, List, [], ◌∷◌, fold, Option, Some, None, if◌then◌else◌, slice_index, slice_set}
+use Rattle.std.specs.Prelude.{ℕ, ◌==◌, Bool, true, List, [], ◌∷◌, fold, Option, Some, None, if◌then◌else◌, slice_index, slice_set}
 use Rattle.std.specs.List.{filter}
 use Rattle.dom_words.specs.Operators.{bin_word, chosen, is_true, un_word}
 use Rattle.dom_words.specs.State.{Hash, Outcome, fetched, stored}

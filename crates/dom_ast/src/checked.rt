@@ -1,6 +1,7 @@
 ghost use Rattle.std.specs.Prelude.{◌≡◌, ◌≤◌, [], length, true};
 ghost use Rattle.dom_ast.specs.Resolved.{bodies_form};
-ghost use Rattle.dom_ast.specs.Kept.{are_guards_free, are_lengths, are_within, bodies_visits, have_one_index, keep_indexes, mentions_in, resolved_ranges, state_words};
+ghost use Rattle.dom_ast.specs.Kept.{are_guards_free, are_within, bodies_visits, have_one_index, keep_indexes, mentions_in, resolved_ranges};
+ghost use Rattle.dom_words.specs.State.{are_lengths, state_words};
 
 use crate::part::{Goal, Part};
 use dom_words::{ArrayList, Names, Seq};

@@ -1,5 +1,5 @@
 ghost use Rattle.std.specs.Prelude.{◌≡◌, ◌≤◌, [], length, map, true};
-ghost use Rattle.dom_ast.specs.Kept.{are_lengths, state_words};
+ghost use Rattle.dom_words.specs.State.{are_lengths, state_words};
 ghost use Rattle.dom_ast.specs.Flanks.{are_flanked, flank_form, flanks_within};
 ghost use Rattle.dom_ast.specs.Straight.{straight_ranges};
 

@@ -1,5 +1,5 @@
 ghost use Rattle.std.specs.Prelude.{◌≡◌, ◌≤◌, [], length, map, true};
-ghost use Rattle.dom_ast.specs.Kept.{are_lengths, state_words};
+ghost use Rattle.dom_words.specs.State.{are_lengths, state_words};
 ghost use Rattle.dom_ast.specs.Named.{are_named, are_outputs, makes_of, named_form};
 ghost use Rattle.dom_ast.specs.Resolved.{form};
 

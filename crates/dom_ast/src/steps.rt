@@ -1,5 +1,6 @@
 ghost use Rattle.std.specs.Prelude.{◌≡◌, ◌≤◌, [], length, map, true};
-ghost use Rattle.dom_ast.specs.Kept.{are_lengths, are_within, have_one_index, keep_indexes, mentions_in, state_words};
+ghost use Rattle.dom_ast.specs.Kept.{are_within, have_one_index, keep_indexes, mentions_in};
+ghost use Rattle.dom_words.specs.State.{are_lengths, state_words};
 ghost use Rattle.dom_ast.specs.Straight.{step_form, step_visit, straight_ranges};
 
 use crate::part::{Goal, Part};

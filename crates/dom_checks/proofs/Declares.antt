@@ -4,7 +4,7 @@ use Rattle.std.specs.List.{list_all}
 use Rattle.std.proofs.lemmas.List.Folds.{list_all-append}
 use Rattle.std.proofs.lemmas.List.Sums.{sum-map, sum_by_push}
 use Rattle.dom_words.specs.declared.array.Array.{Array}
-use Rattle.dom_ast.specs.Kept.{is_length, state_words}
+use Rattle.dom_words.specs.State.{is_length, state_words}
 use Rattle.dom_ast.specs.declared.program.Length.{Length}
 use Rattle.std.specs.Prelude.{Option, Some, None}
 use Rattle.dom_checks.specs.declared.meant.Meant.{Meant}

@@ -2,7 +2,7 @@
 use Rattle.std.specs.Prelude.{ℕ, ◌≤◌, ◌≡◌, Bool, true, nat_lt, List, length}
 use Rattle.std.specs.List.{list_all}
 use Rattle.dom_words.specs.declared.array.Array.{Array}
-use Rattle.dom_ast.specs.Kept.{are_lengths, state_words}
+use Rattle.dom_words.specs.State.{are_lengths, state_words}
 use Rattle.dom_checks.specs.declared.meant.Meant.{Meant}
 use Rattle.dom_checks.specs.declared.meant.Meant.TheVariants as meaning
 

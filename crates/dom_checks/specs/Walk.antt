@@ -13,7 +13,8 @@ use Rattle.dom_ast.specs.declared.program.Length.TheVariants as extent
 use Rattle.dom_ast.specs.declared.program.Init.{Init}
 use Rattle.dom_ast.specs.declared.program.Init.TheVariants as init
 use Rattle.dom_ast.specs.Form.{ExprForm, number, word, field, index, call, un, chain, choice, ExprForms, no_exprs, expr, OpForms, no_ops, op, TargetForm, to_word, to_field, to_index, StmtForm, assign, branch, StmtForms, no_stmts, stmt, TransactionForm, ProgramForm}
-use Rattle.dom_ast.specs.Kept.{Mention, acts_visits, act_visits, is_length, is_no_index, is_place, mention, mentions_in, part_mentions, state_words}
+use Rattle.dom_ast.specs.Kept.{Mention, acts_visits, act_visits, is_no_index, is_place, mention, mentions_in, part_mentions}
+use Rattle.dom_words.specs.State.{is_length, state_words}
 use Rattle.dom_checks.specs.declared.faults.CheckFault.{CheckFault}
 use Rattle.dom_checks.specs.declared.faults.CheckFault.TheVariants as fault
 use Rattle.dom_checks.specs.declared.faults.Limit.TheVariants as limit

@@ -1,7 +1,7 @@
 ghost use Rattle.std.specs.Prelude.{◌≡◌, ◌+◌, ◌<◌, ◌≤◌, ◌++◌, [], ◌∷◌, false, true, length, map, IfErr, IfOk, None, OnOk};
 ghost use Rattle.dom_words.specs.Names.{has_name};
 ghost use Rattle.dom_ast.specs.declared.program.Head.TheVariants as head;
-ghost use Rattle.dom_ast.specs.Kept.{is_length, state_words};
+ghost use Rattle.dom_words.specs.State.{is_length, state_words};
 ghost use Rattle.dom_checks.specs.Answers.{IsFirst};
 ghost use Rattle.dom_checks.specs.Scope.{array_of, declared, define_word, heads_scope, init_of, length_of, meant, nothing, with_global};
 ghost use Rattle.dom_checks.specs.Walk.{define_checks, fields_checks, first_fault, global_checks, head_checks, heads_checks, init_checks, length_checks, name_checks, new_field_checks, size_checks};

@@ -1,6 +1,6 @@
 ghost use Rattle.std.specs.Prelude.{◌≡◌, ◌+◌, ◌<◌, ◌≤◌, false, true, is_some, length, map, IfNone, IfOk, IfSome};
 ghost use Rattle.dom_words.specs.Names.{has_name, index_of};
-ghost use Rattle.dom_ast.specs.Kept.{are_lengths, is_length, state_words};
+ghost use Rattle.dom_words.specs.State.{are_lengths, is_length, state_words};
 ghost use Rattle.dom_checks.specs.declared.meant.Meant.TheVariants as meaning;
 ghost use Rattle.dom_checks.specs.Kept.{is_numbered};
 ghost use Rattle.dom_checks.specs.Scope.{global_meaning, is_param, meant, nothing, with_array, with_global, with_name, with_param, with_struct, without_param};

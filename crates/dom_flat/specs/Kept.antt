@@ -1,23 +1,11 @@
 -- What holds of a statement list.
-use Rattle.std.specs.Prelude.{ℕ, Bool, true, false, not, ◌&&◌, nat_eq, nat_le, nat_lt, List, [], ◌∷◌, ◌++◌, length, map, replicate, sum, slice_index_or}
+use Rattle.std.specs.Prelude.{ℕ, Bool, true, false, not, ◌&&◌, nat_eq, nat_lt, List, [], ◌∷◌, ◌++◌, length, map, replicate, slice_index_or}
 use Rattle.std.specs.List.{list_all, list_any}
-use Rattle.dom_words.specs.declared.array.Array.{Array}
 use Rattle.dom_flat.specs.declared.line.Operand.{Operand}
 use Rattle.dom_flat.specs.declared.line.Operand.TheVariants.{Const, Value}
 use Rattle.dom_flat.specs.declared.line.Line.{Line}
 use Rattle.dom_flat.specs.declared.line.Line.TheVariants as line
 use Rattle.dom_flat.specs.Lines.{makes, operands_of}
-
--- an array has 1 to 1,048,576 words
-abbrev pub is_length : ℕ → Bool
-is_length n = nat_le 1 n && nat_le n 1048576
-
-abbrev pub are_lengths : List Array → Bool
-are_lengths arrays = list_all (λ array. is_length array.length) arrays
-
--- the words of all arrays
-abbrev pub state_words : List Array → ℕ
-state_words arrays = sum (map (λ array. array.length) arrays)
 
 -- a hash has as many arguments as its unit says
 abbrev pub has_its_args : Line → Bool

@@ -1,5 +1,6 @@
 ghost use Rattle.std.specs.Prelude.{◌≡◌, ◌≤◌, [], length, true};
-ghost use Rattle.dom_flat.specs.Kept.{are_after, are_flanked, are_known, are_lengths, entered, lines_within, state_words, values_of};
+ghost use Rattle.dom_flat.specs.Kept.{are_after, are_flanked, are_known, entered, lines_within, values_of};
+ghost use Rattle.dom_words.specs.State.{are_lengths, state_words};
 
 use crate::line::{LineList, Operands};
 use dom_words::{ArrayList, Names};

@@ -4,8 +4,6 @@
 mod eval;
 mod flat;
 mod line;
-#[cfg(test)]
-mod tests;
 
 pub use eval::eval_one;
 pub use flat::Flat;

@@ -5,8 +5,6 @@ pub mod laws;
 mod lexer;
 mod next;
 mod symbol;
-#[cfg(test)]
-mod tests;
 mod token;
 
 pub use lexer::lex;

@@ -7,8 +7,6 @@ mod heads;
 mod kinds;
 mod parser;
 mod statements;
-#[cfg(test)]
-mod tests;
 
 pub use faults::ParseFault;
 pub use parser::{one_fault, one_program, parse};

@@ -1,5 +1,5 @@
 -- What a text is as a program: too long, with a fault in its bytes, in its tokens or in its names, or well formed.
-use Rattle.std.specs.Prelude.{◌≡◌, ℕ, ◌<◌, ◌≤◌, List, length, Option, Some, None, Result, Ok, Err}
+use Rattle.std.specs.Prelude.{◌≡◌, ℕ, ◌<◌, ◌≤◌, List, length, Some, None, Result, Ok, Err}
 use Rattle.dom_lexer.specs.declared.token.Token.{Token}
 use Rattle.dom_lexer.specs.declared.token.LexFault.{LexFault}
 use Rattle.dom_lexer.specs.Text.{IsFault, Lexed, most_tokens}

@@ -1,5 +1,5 @@
 -- What a call answers: its status, and the bytes that it puts.
-use Rattle.std.specs.Prelude.{◌≡◌, ⊤, ℕ, ◌<◌, ◌≤◌, ◌⊎◌, Option, Some, None, IfSome, List, ◌++◌, map, Result, Ok, Err}
+use Rattle.std.specs.Prelude.{◌≡◌, ⊤, ℕ, ◌⊎◌, Option, Some, None, IfSome, List, ◌++◌, map, Result, Ok, Err}
 use Rattle.dom_io.specs.Causes.{Rose}
 use Rattle.dom_io.specs.Held.{appended}
 use Rattle.trace_text.specs.Trace.{entries}

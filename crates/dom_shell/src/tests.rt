@@ -1,3 +1,6 @@
+mod lines;
+mod traces;
+
 use crate::domino;
 use dom_io::{MemShelf, MemSink};
 use dom_words::{FileList, FnvUnits, Memory, Name, Seq};

@@ -1,11 +1,16 @@
 -- State: arrays of words.
-use Rattle.std.specs.Prelude.{◌≡◌, ℕ, ◌%◌, List, [], length, map, replicate, slice_index, slice_index_or, slice_set}
+use Rattle.std.specs.Prelude.{◌≡◌, ◌<◌, ◌^◌, ℕ, ◌%◌, Bool, ◌&&◌, nat_le, List, [], length, map, replicate, slice_index, slice_index_or, slice_set, sum}
+use Rattle.std.specs.List.{list_all}
 use Rattle.dom_words.specs.declared.array.Array.{Array}
 use Rattle.dom_words.specs.declared.hash.HashName.{HashName}
 
 -- what hash units answer: a word for a unit and its arguments
 abbrev pub Hash : Type 0
 Hash = HashName → List ℕ → ℕ
+
+-- hash units answer words below 2^31
+abbrev pub IsSmallHash : Hash → Type 0
+IsSmallHash hash = (unit : HashName) (args : List ℕ) → hash unit args < 2 ^ 31
 
 -- what becomes of a packet and of a state
 pub record Outcome : Type 0 where
@@ -35,3 +40,14 @@ started arrays = map (λ array. replicate array.length array.init) arrays
 -- these are words of the declared arrays
 abbrev pub IsStateOf : List Array → List (List ℕ) → Type 0
 IsStateOf arrays state = map length state ≡ map (λ array. array.length) arrays
+
+-- an array has 1 to 1,048,576 words
+abbrev pub is_length : ℕ → Bool
+is_length n = nat_le 1 n && nat_le n 1048576
+
+abbrev pub are_lengths : List Array → Bool
+are_lengths arrays = list_all (λ array. is_length array.length) arrays
+
+-- the words of all arrays
+abbrev pub state_words : List Array → ℕ
+state_words arrays = sum (map (λ array. array.length) arrays)

@@ -6,13 +6,13 @@ use Rattle.std.specs.Option.{is_some, option_or}
 use Rattle.std.proofs.lemmas.Bool.{false≢true, leb-true}
 use Rattle.std.proofs.lemmas.List.{ext_get_or, get_or-set_other, get_or-set_same, length-map}
 use Rattle.std.proofs.lemmas.List.Sums.{fold-append}
-use Rattle.dom_words.specs.State.{Hash, IsStateOf, Outcome, array_of, element_of}
+use Rattle.dom_words.specs.State.{Hash, IsStateOf, Outcome, are_lengths, array_of, element_of, is_length}
 use Rattle.dom_words.specs.declared.array.Array.{Array}
 use Rattle.dom_ast.specs.declared.part.Goal.{Goal}
 use Rattle.dom_ast.specs.declared.part.Goal.TheVariants as goal
 use Rattle.dom_ast.specs.declared.part.Place.{Place}
 use Rattle.dom_ast.specs.Flanks.{FlankEnv, FlankForm, all_flanked, flank_entering, flank_outcome_of, flanked, flanked_outcome, write}
-use Rattle.dom_ast.specs.Kept.{Mention, are_lengths, are_within, have_one_index, is_length, keep_indexes, mentions_in}
+use Rattle.dom_ast.specs.Kept.{Mention, are_within, have_one_index, keep_indexes, mentions_in}
 use Rattle.dom_ast.specs.Meaning.{Env, entering, outcome_of}
 use Rattle.dom_ast.specs.Straight.{StepForm, all_stepped, step_visit, straight_outcome, straight_ranges}
 use Rattle.state_flanks.specs.WithFlanks.{goal_index, is_mentioned, target_index, with_flanks, with_reads, write_flank, write_flanks}

@@ -1,12 +1,12 @@
 -- Where read and write flanks stand in a list of steps.
-use Rattle.std.specs.Prelude.{ℕ, ◌+◌, Bool, nat_eq, List, [], ◌∷◌, ◌++◌, map, Option, Some, None, if◌then◌else◌}
+use Rattle.std.specs.Prelude.{ℕ, ◌+◌, Bool, nat_eq, List, [], ◌∷◌, ◌++◌, Option, Some, None, if◌then◌else◌}
 use Rattle.std.specs.List.{list_any}
 use Rattle.std.specs.Option.{option_or}
 use Rattle.dom_words.specs.declared.array.Array.{Array}
 use Rattle.dom_ast.specs.declared.part.Goal.{Goal}
 use Rattle.dom_ast.specs.declared.part.Goal.TheVariants as goal
 use Rattle.dom_ast.specs.declared.part.Place.{Place}
-use Rattle.dom_ast.specs.Kept.{Mention, mention, visit_mentions}
+use Rattle.dom_ast.specs.Kept.{Mention, visit_mentions}
 use Rattle.dom_ast.specs.Straight.{StepForm, step_visit}
 use Rattle.dom_ast.specs.Flanks.{FlankForm, read, set, write}
 

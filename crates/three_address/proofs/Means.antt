@@ -12,7 +12,7 @@ use Rattle.std.proofs.lemmas.List.Sums.{fold-append}
 use Rattle.std.proofs.Common.{length-append}
 use Rattle.dom_words.specs.Number.{signed_of}
 use Rattle.dom_words.specs.Operators.{bin_word, chosen, un_word, word_of}
-use Rattle.dom_words.specs.State.{Hash, Outcome, fetched, stored}
+use Rattle.dom_words.specs.State.{Hash, IsSmallHash, Outcome, fetched, stored}
 use Rattle.dom_words.specs.declared.hash.HashName.{HashName}
 use Rattle.dom_words.specs.declared.operators.BinOp.{BinOp}
 use Rattle.dom_words.specs.declared.operators.BinOp.TheVariants as binop
@@ -29,7 +29,7 @@ use Rattle.dom_flat.specs.Lines.{is_flank}
 use Rattle.dom_flat.specs.Meaning.{FlatEnv, flat_entering, flat_outcome, line_arrays, line_step, line_word, operand_word, reduced, run_lines}
 use Rattle.dom_flat.proofs.Run.{run_kept}
 use Rattle.three_address.specs.Flattening.{AllFlattened, Flattened, all_flattened, as_modulus, ended, first_modulus, flattened, folded, folded_later, is_modulus, op_modulus, ops_modulus}
-use Rattle.three_address.specs.Statements.{Draft, IsSmallHash, all_statements, draft, with_item, with_items}
+use Rattle.three_address.specs.Statements.{Draft, all_statements, draft, with_item, with_items}
 use Rattle.three_address.proofs.Flanks.{none_made, outputs_within}
 use Rattle.three_address.proofs.Grown.{Grown, all_grow, folds_grow, grown_by, grown_more, grows}
 

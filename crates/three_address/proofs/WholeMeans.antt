@@ -1,12 +1,12 @@
 -- The statement list means what the list with one name for each value means.
 use Rattle.std.proofs.Common.{◌≡◌, ℕ, true, List, [], length, ap, ◌∙◌}
-use Rattle.dom_words.specs.State.{Hash}
+use Rattle.dom_words.specs.State.{Hash, IsSmallHash}
 use Rattle.dom_ast.specs.Named.{NamedForm, are_named, are_outputs, makes_of, named_outcome}
 use Rattle.dom_ast.specs.Resolved.{PartForm}
 use Rattle.dom_flat.specs.declared.line.Operand.{Operand}
 use Rattle.dom_flat.specs.declared.line.Line.{Line}
 use Rattle.dom_flat.specs.Meaning.{flat_outcome}
-use Rattle.three_address.specs.Statements.{IsSmallHash, all_statements, statements}
+use Rattle.three_address.specs.Statements.{all_statements, statements}
 use Rattle.three_address.proofs.Flanks.{whole}
 use Rattle.three_address.proofs.KeptMeans.{needed_mean}
 use Rattle.three_address.proofs.Means.{all_mean}

@@ -1,5 +1,5 @@
 -- The statements that are needed, and their new numbers.
-use Rattle.std.specs.Prelude.{ℕ, zero, suc, ◌+◌, ◌-◌, ◌||◌, nat_lt, Bool, true, false, List, [], ◌∷◌, map, take, if◌then◌else◌}
+use Rattle.std.specs.Prelude.{ℕ, suc, ◌+◌, ◌-◌, ◌||◌, nat_lt, Bool, true, false, List, [], ◌∷◌, map, take, if◌then◌else◌}
 use Rattle.std.specs.List.{list_any}
 use Rattle.dom_flat.specs.Lines.{operands_of, stores_to, uses}
 use Rattle.dom_flat.specs.declared.line.Operand.{Operand}

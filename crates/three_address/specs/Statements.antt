@@ -1,7 +1,5 @@
 -- The statement list of a list with one name for each value.
-use Rattle.std.specs.Prelude.{◌≡◌, ◌<◌, ◌^◌, ℕ, Bool, List, [], ◌∷◌, ◌++◌, fold, map, ⊤}
-use Rattle.dom_words.specs.State.{Hash}
-use Rattle.dom_words.specs.declared.hash.HashName.{HashName}
+use Rattle.std.specs.Prelude.{◌≡◌, ◌<◌, ℕ, Bool, List, [], ◌∷◌, ◌++◌, fold, map, ⊤}
 use Rattle.dom_ast.specs.Named.{NamedForm, read, make, write}
 use Rattle.dom_ast.specs.Resolved.{PartForm, parts_of}
 use Rattle.dom_flat.specs.declared.line.Operand.{Operand}
@@ -65,10 +63,6 @@ needed_only fields all = numbered fields (marks_of fields all) all
 
 abbrev pub statements : ℕ → List NamedForm → List PartForm → AllFlattened
 statements fields items outputs = needed_only fields (all_statements fields items outputs)
-
--- hash units answer words below 2^31
-abbrev pub IsSmallHash : Hash → Type 0
-IsSmallHash hash = (unit : HashName) (args : List ℕ) → hash unit args < 2 ^ 31
 
 -- why a list of so many statements is refused
 abbrev pub IsRefused : FlatFault → ℕ → Type 0

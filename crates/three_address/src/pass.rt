@@ -1,10 +1,10 @@
 ghost use Rattle.std.specs.Prelude.{◌≡◌, ℕ, ◌+◌, ◌<◌, ◌≤◌, ◌^◌, [], IfErr, IfOk, List, length, map, true};
-ghost use Rattle.dom_words.specs.State.{Hash};
+ghost use Rattle.dom_words.specs.State.{Hash, IsSmallHash};
 ghost use Rattle.dom_ast.specs.Named.{are_named, are_outputs, makes_of, named_form, named_nodes, named_outcome};
 ghost use Rattle.dom_ast.specs.Resolved.{form};
 ghost use Rattle.dom_flat.specs.Kept.{are_after, are_below, entered, lines_within};
 ghost use Rattle.dom_flat.specs.Meaning.{flat_outcome};
-ghost use Rattle.three_address.specs.Statements.{IsRefused, IsSmallHash, all_of, needed_only, statements};
+ghost use Rattle.three_address.specs.Statements.{IsRefused, all_of, needed_only, statements};
 
 use crate::fault::FlatFault;
 use crate::items::all_statements;

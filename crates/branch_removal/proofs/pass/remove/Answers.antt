@@ -1,5 +1,5 @@
 use Rattle.std.proofs.Common.{◌≡◌, ◌≤◌, true, sym, ap, ◌∙◌, subst}
-use Rattle.dom_ast.specs.Kept.{are_lengths, state_words}
+use Rattle.dom_words.specs.State.{are_lengths, state_words}
 use Rattle.dom_ast.specs.Resolved.{bodies_form}
 use Rattle.branch_removal.proofs.Whole.{names_fit, steps_few, steps_keep, steps_mean, steps_names, steps_one_index, steps_within}
 use Rattle.branch_removal.proofs.pass.remove.Goals as goal

@@ -1,6 +1,6 @@
-use crate::{TraceFault, read_trace};
 use dom_words::{Name, Names, Packet};
 use std::test::Fail;
+use trace_text::{TraceFault, read_trace};
 
 #[test]
 fn traces(rt: HostRuntime) -> Result<(), Fail> {

@@ -1,5 +1,5 @@
-use crate::{ParseFault, parse};
 use dom_lexer::lex;
+use dom_parser::{ParseFault, parse};
 use std::alloc::Global;
 use std::test::Fail;
 

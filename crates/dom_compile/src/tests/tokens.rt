@@ -1,6 +1,6 @@
 ghost use Rattle.std.specs.Prelude.{◌≤◌, length};
 
-use crate::{TokenKind, lex};
+use dom_lexer::{TokenKind, lex};
 use std::alloc::Global;
 use std::test::Fail;
 

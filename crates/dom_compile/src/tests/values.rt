@@ -1,4 +1,4 @@
-use crate::{Line, Operand, eval_one};
+use dom_flat::{Line, Operand, eval_one};
 use dom_words::{BinOp, FnvUnits, HashName, Seq, UnOp};
 use std::test::Fail;
 

@@ -1,10 +1,10 @@
 ghost use Rattle.std.specs.Prelude.{◌≡◌, ◌≤◌, length, IfOk};
 
-use crate::Lines;
 use dom_io::{MemSink, Sink, SinkFault};
 use dom_words::{Array, Memory, Name, Names, Seq};
 use std::alloc::Global;
 use std::test::Fail;
+use trace_text::Lines;
 
 // The lines of two fields and one array.
 fn sample_lines(alloc: Global) -> Result<Lines, Memory>

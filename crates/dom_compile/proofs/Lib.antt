@@ -1,0 +1,2 @@
+-- Why the contracts hold.
+pub mod Listed

@@ -1,0 +1,3 @@
+-- What texts compile to.
+pub mod Compiled
+pub mod Layers

@@ -1,0 +1,10 @@
+//! The compiler: every pass in its order, from a text to a statement list.
+#![tactic(auto)]
+
+mod faults;
+mod passes;
+#[cfg(test)]
+mod tests;
+
+pub use faults::CompileFault;
+pub use passes::statements;

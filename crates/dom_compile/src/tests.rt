@@ -1,0 +1,4 @@
+mod lists;
+mod programs;
+mod tokens;
+mod values;
