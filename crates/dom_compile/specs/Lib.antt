@@ -1,3 +1,4 @@
 -- What texts compile to.
 pub mod Compiled
 pub mod Layers
+pub mod Programs

@@ -6,7 +6,8 @@ ghost use Rattle.dom_ast.specs.PartSize.{bodies_nested, bodies_nodes};
 ghost use Rattle.dom_ast.specs.Resolved.{bodies_form, form};
 ghost use Rattle.dom_ast.specs.Size.{program_nested, program_nodes};
 ghost use Rattle.ssa_names.specs.Naming.{outputs_of};
-ghost use Rattle.dom_compile.specs.Compiled.{HasTree, IsCause, IsCompiled, IsListed, IsProgram, IsTooLong, MeansProgram, naming_of};
+ghost use Rattle.dom_compile.specs.Compiled.{IsCause, IsCompiled, IsListed, IsTooLong, MeansProgram, naming_of};
+ghost use Rattle.dom_compile.specs.Programs.{HasProgram, IsWellFormed};
 
 use crate::faults::CompileFault;
 use branch_removal::remove;
@@ -35,7 +36,7 @@ pub fn statements(alloc: Global, text: &[u8]) -> Result<Flat, CompileFault>
 /// The tree that a text spells.
 fn tree(alloc: Global, text: &[u8]) -> Result<Program, CompileFault>
     requires { length text.now ≤ 65536 }
-    ensures tree { IfOk result (λ p. HasTree text.now (program_form p)) }
+    ensures tree { IfOk result (λ p. HasProgram text.now (program_form p)) }
     ensures nodes { IfOk result (λ p. program_nodes (program_form p) ≤ 16384) }
     ensures nested { IfOk result (λ p. program_nested 64 (program_form p) ≡ true) }
     ensures one_struct { IfOk result (λ p. has_one_struct (program_form p).heads ≡ true) }
@@ -48,7 +49,7 @@ fn tree(alloc: Global, text: &[u8]) -> Result<Program, CompileFault>
 /// The program that a text spells, where it is well formed, with its names resolved.
 pub(crate) fn checked(alloc: Global, text: &[u8]) -> Result<Checked, CompileFault>
     requires { length text.now ≤ 65536 }
-    ensures program { IfOk result (λ c. IsProgram text.now (checked_form c)) }
+    ensures program { IfOk result (λ c. IsWellFormed text.now (checked_form c)) }
     ensures nodes { IfOk result (λ c. bodies_nodes (bodies_form c.bodies) ≤ 16384) }
     ensures nested { IfOk result (λ c. bodies_nested 64 (bodies_form c.bodies) ≡ true) }
     ensures refused { IfErr result (λ fault. IsCause text.now fault) }

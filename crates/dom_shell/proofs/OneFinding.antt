@@ -17,7 +17,8 @@ use Rattle.trace_text.proofs.Once.{one_trace}
 use Rattle.dom_shell.specs.Command.{Command, command_of, files_of, run, serial}
 use Rattle.dom_shell.specs.FirstForm.{FormNames, IsFirstForm}
 use Rattle.dom_shell.specs.Job.{IsFormAnswer, IsJudged, IsSerialAnswer, IsTraceAnswer, Job, bad_trace, clocked, depth_of, fault_of, fields_of, good_trace, ill, in_turn, long_trace, of_another, of_form, well}
-use Rattle.dom_shell.specs.ProgramAnswer.{HasCheckFault, HasLexFault, HasParseFault, HasProgram, HasTokens, IsProgramAnswer, IsWellFormed, long_program, no_tokens, no_tree, violated, well_formed}
+use Rattle.dom_compile.specs.Programs.{HasCheckFault, HasLexFault, HasParseFault, HasProgram, HasTokens, IsWellFormed}
+use Rattle.dom_shell.specs.ProgramAnswer.{IsProgramAnswer, long_program, no_tokens, no_tree, violated, well_formed}
 use Rattle.dom_shell.specs.Result.{Finding, IsFound, IsFoundBy, IsTold, Judges, MayHold, Reads, by_job, by_program, by_trace, no_command, some_command}
 use Rattle.dom_shell.specs.declared.refusals.Refusal.{Refusal}
 use Rattle.dom_shell.specs.declared.refusals.Refusal.TheVariants as refusal

@@ -16,7 +16,8 @@ use Rattle.trace_text.specs.Trace as trace
 use Rattle.trace_text.specs.declared.trace.TraceFault.{TraceFault}
 use Rattle.trace_text.specs.declared.trace.TraceFault.TheVariants as fault
 use Rattle.dom_shell.specs.Job.{bad_trace}
-use Rattle.dom_shell.specs.ProgramAnswer.{HasProgram, HasTokens, no_tokens, no_tree, violated}
+use Rattle.dom_compile.specs.Programs.{HasProgram, HasTokens}
+use Rattle.dom_shell.specs.ProgramAnswer.{no_tokens, no_tree, violated}
 use Rattle.dom_shell.specs.Stops.{ProgramStop, TraceStop, stop_of_check, stop_of_lex, stop_of_parse, trace_stop}
 use Rattle.dom_shell.specs.declared.reading.Stop.{Stop}
 

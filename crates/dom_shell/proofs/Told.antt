@@ -13,7 +13,8 @@ use Rattle.dom_shell.specs.Command.{Command, FileNames, files_of, run, serial}
 use Rattle.dom_shell.specs.FirstForm.{IsFirstForm, IsNotFirstForm, FormNames, is_hash_name, is_name}
 use Rattle.dom_shell.specs.Job.{IsTraceAnswer, Job, bad_trace, clocked, depth_of, fields_of, good_trace, ill, in_turn, long_trace, of_another, of_form, well}
 use Rattle.dom_shell.specs.Prepared.{IsReady, IsSetUp}
-use Rattle.dom_shell.specs.ProgramAnswer.{IsProgramAnswer, IsWellFormed, long_program, no_tokens, no_tree, violated, well_formed}
+use Rattle.dom_compile.specs.Programs.{IsWellFormed}
+use Rattle.dom_shell.specs.ProgramAnswer.{IsProgramAnswer, long_program, no_tokens, no_tree, violated, well_formed}
 use Rattle.dom_shell.specs.Result.{IsFoundBy, Judges, MayHold, Reads, by_program, by_trace}
 use Rattle.dom_shell.specs.SerialSetUp.{IsSerialReady, IsSerialSetUp}
 use Rattle.dom_shell.specs.Stops.{ProgramStop, ReadStop, StopCause, TraceStop}

@@ -1,6 +1,6 @@
 ghost use Rattle.std.specs.Prelude.{◌≡◌, IfErr, IfOk};
 ghost use Rattle.dom_ast.specs.CheckedForm.{checked_form};
-ghost use Rattle.dom_shell.specs.ProgramAnswer.{IsWellFormed};
+ghost use Rattle.dom_compile.specs.Programs.{IsWellFormed};
 ghost use Rattle.dom_shell.specs.Stops.{ProgramStop, stop_of_check, stop_of_lex, stop_of_parse};
 
 use crate::reading::{MOST_PROGRAM_BYTES, Stop};

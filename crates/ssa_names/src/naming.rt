@@ -33,7 +33,7 @@ pub fn name(alloc: Global, steps: Flanked) -> Result<Named, Memory>
         items,
     } = steps;
     let count = fields.len() as u32;
-    let Walk { tables, items } = walked(alloc, count, arrays.len(), fresh, items.as_slice())?;
+    let Walk { tables, items } = walked(alloc, count, arrays.len(), fresh, items.into_vec())?;
     let outputs = parts(alloc, tables.fields.as_slice())?;
     Ok(Named {
         fields,
@@ -49,10 +49,10 @@ fn walked(
     fields: u32,
     arrays: usize,
     fresh: u32,
-    items: &[FlankItem],
+    items: Vec<FlankItem>,
 ) -> Result<Walk, Memory>
-    requires { length items.now < 2 ^ 32 }
-    ensures { IfOk result (λ w. naming_of w ≡ named fields arrays fresh (map flank_form items.now)) }
+    requires { length items.items < 2 ^ 32 }
+    ensures { IfOk result (λ w. naming_of w ≡ named fields arrays fresh (map flank_form items.items)) }
 {
     let tables = Tables::new(alloc, fields, arrays, fresh)?;
     let mut walk = Walk {
@@ -85,18 +85,18 @@ pub struct Walk {
 
 impl Walk {
     // One flank or step more.
-    fn take(&mut self, alloc: Global, item: &FlankItem) -> Result<(), Memory>
+    fn take(&mut self, alloc: Global, item: FlankItem) -> Result<(), Memory>
         requires { length self.old.items < 2 ^ 32 }
-        ensures list { OnOk result (naming_of self.new ≡ named_item (naming_of self.old) (flank_form item.now)) }
+        ensures list { OnOk result (naming_of self.new ≡ named_item (naming_of self.old) (flank_form item)) }
         ensures few { OnOk result (length self.new.items ≤ length self.old.items + 1) }
     {
         match item {
             FlankItem::Read { array, index } => {
-                let index = self.tables.place(*index);
-                self.read(*array, index)
+                let index = self.tables.place(index);
+                self.read(array, index)
             }
             FlankItem::Set(step) => self.set(alloc, step),
-            FlankItem::Write { array, .. } => self.write(*array),
+            FlankItem::Write { array, .. } => self.write(array),
         }
     }
 
@@ -124,21 +124,22 @@ impl Walk {
     }
 
     // A step: no item where it is a copy, else one that makes its value.
-    fn set(&mut self, alloc: Global, step: &Step) -> Result<(), Memory>
+    fn set(&mut self, alloc: Global, step: Step) -> Result<(), Memory>
         requires { length self.old.items < 2 ^ 32 }
-        ensures list { OnOk result (naming_of self.new ≡ named_set (naming_of self.old) (step_form step.now) (plain (current_of self.old.tables) (form step.now.value))) }
+        ensures list { OnOk result (naming_of self.new ≡ named_set (naming_of self.old) (step_form step) (plain (current_of self.old.tables) (form step.value))) }
         ensures few { OnOk result (length self.new.items ≤ length self.old.items + 1) }
     {
-        let operand = match self.tables.plain(&step.value) {
+        let Step { target, value } = step;
+        let operand = match self.tables.plain(&value) {
             Some(operand) => operand,
             None => {
-                let value = self.next();
-                let part = renamed(alloc, &self.tables, &step.value)?;
+                let made = self.next();
+                let part = renamed(alloc, &self.tables, value)?;
                 self.items.push(NamedItem::Make(part))?;
-                value
+                made
             }
         };
-        self.tables.assign(step.target, operand);
+        self.tables.assign(target, operand);
         Ok(())
     }
 

@@ -1,5 +1,4 @@
-ghost use Rattle.std.specs.Prelude.{◌≡◌, ℕ, length, map, IfOk};
-ghost use Rattle.std.specs.List.{range_with_len};
+ghost use Rattle.std.specs.Prelude.{◌≡◌, IfOk};
 ghost use Rattle.dom_ast.specs.Resolved.{form};
 ghost use Rattle.ssa_names.specs.Naming.{assigned, first_fields, place_operand, plain, read_at, starting};
 ghost use Rattle.ssa_names.specs.Tables.{current_of};

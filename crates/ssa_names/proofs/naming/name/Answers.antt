@@ -13,7 +13,7 @@ walked-requires c =
     let steps = c.args.steps.items in
     let few = few_flanks (map flank_form steps) in
     let size = length-map steps flank_form in
-    let same = ap length c.as_slice.ensures in
+    let same = ap length c.into_vec.ensures in
     omega arith
 
 pub invariant_of-result : goal.invariant_of-result

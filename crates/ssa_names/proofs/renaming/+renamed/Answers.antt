@@ -1,23 +1,23 @@
-use Rattle.std.proofs.Common.{map, sym, ap, ◌∙◌, List, arith}
-use Rattle.std.proofs.lemmas.List.{take_all}
-use Rattle.dom_words.specs.declared.operators.BinOp.{BinOp}
-use Rattle.dom_ast.specs.declared.part.Part.{Part}
-use Rattle.dom_ast.specs.Resolved.{form, op_form, parts_of, ops_of}
+use Rattle.std.proofs.Common.{◌≡◌, map, sym, ap, ◌∙◌, rules}
+use Rattle.dom_ast.specs.Resolved.{call, chain, form, op_form, op_forms, ops_of, parts_of}
 use Rattle.ssa_names.specs.Naming.{renamed}
 use Rattle.ssa_names.specs.Tables.{current_of}
-use Rattle.ssa_names.proofs.Renamed.{all_renamed_of, op_renamed, ops_renamed_of}
+use Rattle.ssa_names.proofs.Forms.{form_call, form_chain}
+use Rattle.ssa_names.proofs.Renamed.{all_renamed_of, ops_renamed_of}
 use Rattle.ssa_names.proofs.renaming.+renamed.Goals as goal
 
-pub renamed_all-returns : goal.renamed_all-returns
-renamed_all-returns t c =
+pub renamed-returns-in_ok-renamed_all-in-Call : goal.renamed-returns-in_ok-renamed_all-in-Call
+renamed-returns-in_ok-renamed_all-in-Call t c =
     let now = current_of c.args.tables.now in
-    let parts = c.args.parts.now in
-    let whole = take_all c.loop-part.part-index parts (omega arith) in
-    ap parts_of (c.loop-part.invariant ∙ ap (λ (ps : List Part). map (renamed now) (map form ps)) whole) ∙ sym (all_renamed_of now (map form parts))
+    let args = ap parts_of c.in_ok-renamed_all-in-Call.ensures ∙ sym (all_renamed_of now (map form c.in-Call.args)) in
+    form_call c.in-Call.unit c.in_ok-renamed_all-in-Call.field-0 ∙ ap (call c.in-Call.unit) args
+    ∙ ap (renamed now) (sym (form_call c.in-Call.unit c.in-Call.args)) ∙ ap (λ p. renamed now (form p)) (sym c.in-Call.is)
 
-pub renamed_ops-returns : goal.renamed_ops-returns
-renamed_ops-returns t c =
+pub renamed-returns-in_ok-renamed_ops-in-Chain : goal.renamed-returns-in_ok-renamed_ops-in-Chain
+renamed-returns-in_ok-renamed_ops-in-Chain t c =
     let now = current_of c.args.tables.now in
-    let ops = c.args.ops.now in
-    let whole = take_all c.loop-op.op-index ops (omega arith) in
-    ap ops_of (c.loop-op.invariant ∙ ap (λ (ps : List (BinOp × Part)). map (op_renamed now) (map op_form ps)) whole) ∙ sym (ops_renamed_of now (map op_form ops))
+    let first : form c.in_ok-boxed-in-Chain.field-0.value ≡ renamed now (form c.in-Chain.first.value) = search rules in
+    let rest = ap ops_of c.in_ok-renamed_ops-in-Chain.ensures ∙ sym (ops_renamed_of now (map op_form c.in-Chain.rest)) in
+    form_chain c.in_ok-boxed-in-Chain.field-0 c.in_ok-renamed_ops-in-Chain.field-0
+    ∙ ap (λ p. chain p (op_forms c.in_ok-renamed_ops-in-Chain.field-0)) first ∙ ap (chain (renamed now (form c.in-Chain.first.value))) rest
+    ∙ ap (renamed now) (sym (form_chain c.in-Chain.first c.in-Chain.rest)) ∙ ap (λ p. renamed now (form p)) (sym c.in-Chain.is)
