@@ -88,7 +88,11 @@ fn steps(rt: HostRuntime) -> Result<(), Fail> {
 #[test]
 fn flanks(rt: HostRuntime) -> Result<(), Fail> {
     let items = items_of(rt.alloc(), SAMPLER.as_bytes())?.items;
-    assert_eq!(rt; items.len(), 7);
+    let shown = items.as_slice();
+    assert_eq!(rt;
+        format!(in rt.alloc(); "{shown:?}")?.as_str(),
+        "[Read { array: 0, index: Word(0) }, Set(Step { target: Fresh(0), value: Chain { first: State { array: 0, index: Word(0) }, rest: Seq { items: [(Eq, Number(29))] } } }), Set(Step { target: Field(0), value: Cond { test: Fresh(0), yes: Number(1), no: Field(0) } }), Set(Step { target: State { array: 0, index: Word(0) }, value: Cond { test: Fresh(0), yes: Number(0), no: State { array: 0, index: Word(0) } } }), Set(Step { target: Field(0), value: Cond { test: Fresh(0), yes: Field(0), no: Number(0) } }), Set(Step { target: State { array: 0, index: Word(0) }, value: Cond { test: Fresh(0), yes: State { array: 0, index: Word(0) }, no: Chain { first: State { array: 0, index: Word(0) }, rest: Seq { items: [(Add, Number(1))] } } } }), Write { array: 0, index: Word(0) }]"
+    );
     Ok(())
 }
 
