@@ -2,24 +2,29 @@
 use Rattle.std.proofs.Common.{◌≡◌, ◌<◌, ◌≤◌, ℕ, zero, suc, ◌+◌, ◌-◌, List, [], ◌∷◌, ◌++◌, refl, sym, ◌∙◌, ap as eq_of, take, length, get_or, replicate, arith, append_assoc, append-nil, length-append}
 use Rattle.std.proofs.lemmas.List.{length-replicate, replicate-append-replicate}
 use Rattle.std.proofs.Math.Seq.{take-append_seam}
-use Rattle.pipeline_law.specs.Stage.{through, state_alone, items_alone, SkipsIdle, IsFeedForward}
-use Rattle.pipeline_law.specs.Pipeline.{Row, drain, empty_row, piped, left}
+use Rattle.pipeline_law.specs.Stage.{through, state_alone, items_alone, SkipsIdle}
+use Rattle.pipeline_law.specs.Pipeline.{IsFeedForward, Pipeline, Row, drain, empty_row, piped, left}
 use Rattle.pipeline_law.proofs.History.{onto, onto-append, length-onto, onto-join}
 use Rattle.pipeline_law.proofs.InFlight.{Holds}
 use Rattle.pipeline_law.proofs.Clocked.{past, past-onto, Stands, piped_stands, left_is, holds_at}
 
+-- an idle item goes through any stages as it is
+module _ {A X S : Type 0} (run : S → A → X → A × X) (idle : X) where
+  pub through-idle : (ts : List S) (a : A) → SkipsIdle run idle ts → through run ts a idle ≡ (a, idle)
+  through-idle [] a h = refl
+  through-idle (t ∷ ts) a h = rw h.0 (through-idle ts a h.1)
+
 module _ {A X S V : Type 0} (run : S → A → X → A × X) (own : S → A → V) (clock : List S → List X → A → A) (ss : List S) (start : A) (idle : X) where
+  abbrev pub pipeline : Pipeline A X S V
+  pipeline = record { stages = ss; run = run; own = own; clock = clock; idle = idle }
+
   -- the pipeline at the beginning
   abbrev pub empty : Row A X
   empty = empty_row ss start idle
 
-  through-idle : (ts : List S) (a : A) → SkipsIdle run idle ts → through run ts a idle ≡ (a, idle)
-  through-idle [] a h = refl
-  through-idle (t ∷ ts) a h = rw h.0 (through-idle ts a h.1)
-
   past-idle : (n : ℕ) → SkipsIdle run idle ss → past run own clock ss start idle (replicate n idle) ≡ start
   past-idle zero h = refl
-  past-idle (suc n) h = eq_of (λ (b : A). (through run ss b idle).0) (past-idle n h) ∙ eq_of (λ (r : A × X). r.0) (through-idle ss start h)
+  past-idle (suc n) h = eq_of (λ (b : A). (through run ss b idle).0) (past-idle n h) ∙ eq_of (λ (r : A × X). r.0) (through-idle run idle ss start h)
 
   empty_holds : (g : A → X → A × X) (ts : List S) → SkipsIdle run idle ss → SkipsIdle run idle ts → ((a : A) → g a idle ≡ (a, idle))
       → Holds run own (past run own clock ss start idle) g ts (drain ts idle) start (drain ts idle)
@@ -48,18 +53,18 @@ module _ {A X S V : Type 0} (run : S → A → X → A × X) (own : S → A → 
 
   state_alone-idle : (n : ℕ) (a : A) → SkipsIdle run idle ss → state_alone run ss a (replicate n idle) ≡ a
   state_alone-idle zero a h = refl
-  state_alone-idle (suc n) a h = eq_of (λ (r : A × X). state_alone run ss r.0 (replicate n idle)) (through-idle ss a h) ∙ state_alone-idle n a h
+  state_alone-idle (suc n) a h = eq_of (λ (r : A × X). state_alone run ss r.0 (replicate n idle)) (through-idle run idle ss a h) ∙ state_alone-idle n a h
 
   items_alone-idle : (n : ℕ) (a : A) (xs : List X) → SkipsIdle run idle ss → items_alone run ss a (replicate n idle ++ xs) ≡ replicate n idle ++ items_alone run ss a xs
   items_alone-idle zero a xs h = refl
   items_alone-idle (suc n) a xs h =
-      let this : (through run ss a idle).1 ≡ idle = eq_of (λ (r : A × X). r.1) (through-idle ss a h) in
+      let this : (through run ss a idle).1 ≡ idle = eq_of (λ (r : A × X). r.1) (through-idle run idle ss a h) in
       let then : items_alone run ss (through run ss a idle).0 (replicate n idle ++ xs) ≡ replicate n idle ++ items_alone run ss a xs =
-      eq_of (λ (r : A × X). items_alone run ss r.0 (replicate n idle ++ xs)) (through-idle ss a h) ∙ items_alone-idle n a xs h in
+      eq_of (λ (r : A × X). items_alone run ss r.0 (replicate n idle ++ xs)) (through-idle run idle ss a h) ∙ items_alone-idle n a xs h in
       cc
 
   -- the row after the entries, read at the item that entered k cycles before the last
-  pub at_each_cycle : (before after : List X) (x : X) (d : X) (s : S) → IsFeedForward run own clock idle ss
+  pub at_each_cycle : (before after : List X) (x : X) (d : X) (s : S) → IsFeedForward pipeline
       → length after < length ss
       → (get_or (piped run clock ss empty (before ++ x ∷ after)).registers (length after) d ≡ (through run (take (length after) ss) (state_alone run ss start before) x).1)
       × (own (get_or ss (length after) s) (piped run clock ss empty (before ++ x ∷ after)).state ≡ own (get_or ss (length after) s) (state_alone run ss start before))
@@ -76,7 +81,7 @@ module _ {A X S V : Type 0} (run : S → A → X → A × X) (own : S → A → 
       rw (← size, ← then) (holds_at run own (past run own clock ss start idle) (λ a z. (a, z)) ss p.registers p.state (onto after []) x (onto before (drain ss idle)) d s few' (rw (← history) stands))
 
   -- a row that is drained has emitted what each item alone makes, each as many cycles after its entry as there are stages
-  pub drained_left : (es : List X) → IsFeedForward run own clock idle ss
+  pub drained_left : (es : List X) → IsFeedForward pipeline
       → left run clock ss empty (es ++ drain ss idle) ≡ drain ss idle ++ items_alone run ss start es
   drained_left es law =
       let flight : onto (drain ss idle) [] ≡ drain ss idle = idle-onto (length ss) [] ∙ append-nil (drain ss idle) in
@@ -94,7 +99,7 @@ module _ {A X S V : Type 0} (run : S → A → X → A × X) (own : S → A → 
       eq_of (λ (j : ℕ). replicate j idle) sum ∙ sym (replicate-append-replicate (n - (k + 1)) (suc k) idle)
 
   -- and each stage's part is what the items, each alone, leave
-  pub drained_own : (es : List X) (k : ℕ) (s : S) → IsFeedForward run own clock idle ss → k < length ss
+  pub drained_own : (es : List X) (k : ℕ) (s : S) → IsFeedForward pipeline → k < length ss
       → own (get_or ss k s) (piped run clock ss empty (es ++ drain ss idle)).state ≡ own (get_or ss k s) (state_alone run ss start es)
   drained_own es k s law few =
       let m : ℕ = length ss - (k + 1) in
@@ -114,7 +119,7 @@ module _ {A X S V : Type 0} (run : S → A → X → A × X) (own : S → A → 
   skips_take (suc k) (t ∷ ts) h = (h.0, skips_take k ts h.1)
 
   -- a register that no entry has reached yet is empty, and the stage behind it has done nothing
-  pub at_first : (es : List X) (k : ℕ) (d : X) (s : S) → IsFeedForward run own clock idle ss
+  pub at_first : (es : List X) (k : ℕ) (d : X) (s : S) → IsFeedForward pipeline
       → length es ≤ k → k < length ss
       → (get_or (piped run clock ss empty es).registers k d ≡ idle) × (own (get_or ss k s) (piped run clock ss empty es).state ≡ own (get_or ss k s) start)
   at_first es k d s law late few =
@@ -136,4 +141,22 @@ module _ {A X S V : Type 0} (run : S → A → X → A × X) (own : S → A → 
       × (own (get_or ss (length front_part) s) p.state ≡ own (get_or ss (length front_part) s) (past run own clock ss start idle (replicate j idle))) =
       holds_at run own (past run own clock ss start idle) (λ a z. (a, z)) ss p.registers p.state front_part idle (replicate j idle) d s few' (rw (← history) stands) in
       let read' = rw (then, size) at read in
-      (read'.0 ∙ eq_of (λ (r : A × X). r.1) (through-idle (take k ss) start (skips_take k ss law.skips)), read'.1)
+      (read'.0 ∙ eq_of (λ (r : A × X). r.1) (through-idle run idle (take k ss) start (skips_take k ss law.skips)), read'.1)
+
+  pub length-items_alone : (a : A) (xs : List X) → length (items_alone run ss a xs) ≡ length xs
+  length-items_alone a [] = refl
+  length-items_alone a (x ∷ xs) = eq_of suc (length-items_alone (through run ss a x).0 xs)
+
+  items_alone-take : (n : ℕ) (a : A) (xs : List X) → items_alone run ss a (take n xs) ≡ take n (items_alone run ss a xs)
+  items_alone-take zero a xs = refl
+  items_alone-take (suc n) a [] = refl
+  items_alone-take (suc n) a (x ∷ xs) = eq_of (λ (z : List X). (through run ss a x).1 ∷ z) (items_alone-take n (through run ss a x).0 xs)
+
+  -- what has left after some entries, without a drain
+  pub left_so_far : (es : List X) → IsFeedForward pipeline → left run clock ss empty es ≡ take (length es) (drain ss idle ++ items_alone run ss start es)
+  left_so_far es law =
+      let flight : onto (drain ss idle) [] ≡ drain ss idle = idle-onto (length ss) [] ∙ append-nil (drain ss idle) in
+      let stands : Stands run own clock ss start idle empty (onto (drain ss idle) []) = rw flight (empty_stands law.skips) in
+      left_is run own clock ss start idle empty es (drain ss idle) [] law.apart law.clocked stands (length-replicate (length ss) idle)
+      ∙ items_alone-take (length es) start (drain ss idle ++ es)
+      ∙ eq_of (λ (z : List X). take (length es) z) (items_alone-idle (length ss) start es law.skips)

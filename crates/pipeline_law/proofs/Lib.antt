@@ -1,4 +1,10 @@
 pub mod Clocked
 pub mod Drained
+pub mod Happening
 pub mod History
 pub mod InFlight
+pub mod Orders
+pub mod Packets
+pub mod Shared
+pub mod Theorems
+pub mod Waiting

@@ -54,9 +54,3 @@ module _ {A X S V : Type 0} (run : S → A → X → A × X) (own : S → A → 
   -- clock ss rs a is the state after all stages have acted at once
   abbrev pub IsClock : (List S → List X → A → A) → List S → Type 0
   IsClock clock ss = (rs : List X) (a : A) → Clocked ss rs a (clock ss rs a)
-
--- stages that are apart, under one clock, and that an idle item leaves as they are
-pub record IsFeedForward {A X S V : Type 0} (run : S → A → X → A × X) (own : S → A → V) (clock : List S → List X → A → A) (idle : X) (ss : List S) : Type 0 where
-  pub apart : AreApart run own ss
-  pub clocked : IsClock run own clock ss
-  pub skips : SkipsIdle run idle ss
