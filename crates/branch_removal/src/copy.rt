@@ -1,6 +1,7 @@
 //! Copies.
 
-ghost use Rattle.std.specs.Prelude.{◌≡◌, IfOk, map};
+ghost use Rattle.std.specs.Prelude.{◌≡◌, IfOk, map, true};
+ghost use Rattle.dom_words.specs.State.{fits_word, start_with_words};
 ghost use Rattle.dom_ast.specs.Resolved.{form, forms};
 
 use dom_ast::{Part, PartList};
@@ -66,17 +67,34 @@ fn copy_all(alloc: Global, parts: &[Part]) -> Result<PartList, Memory>
     Ok(all)
 }
 
+/// A copy of an array.
+fn copy_array(alloc: Global, array: &Array) -> Result<Array, Memory>
+    ensures same { IfOk result (λ a. a ≡ array.now) }
+    ensures word { IfOk result (λ a. fits_word a.init ≡ true) }
+{
+    Ok(Array {
+        name: Name::of(alloc, array.name.as_bytes())?,
+        length: array.length,
+        init: first_word(array.init),
+    })
+}
+
+// What an array starts with, which is a word.
+fn first_word(init: u32) -> u32
+    ensures same { result ≡ init }
+    ensures word { fits_word result ≡ true }
+{
+    init
+}
+
 /// A copy of arrays.
 pub(crate) fn copy_arrays(alloc: Global, arrays: &[Array]) -> Result<ArrayList, Memory>
-    ensures { IfOk result (λ s. s ≡ arrays.now) }
+    ensures same { IfOk result (λ s. s ≡ arrays.now) }
+    ensures words { IfOk result (λ s. start_with_words s ≡ true) }
 {
     let mut all = Seq::new(alloc);
     for array in arrays {
-        all.push(Array {
-            name: Name::of(alloc, array.name.as_bytes())?,
-            length: array.length,
-            init: array.init,
-        })?;
+        all.push(copy_array(alloc, array)?)?;
     }
     Ok(all)
 }

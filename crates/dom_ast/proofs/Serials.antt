@@ -1,9 +1,9 @@
 -- Serial runs: numbers in range, arrays of which none is empty, and what steps come to.
-use Rattle.std.proofs.Common.{◌≡◌, ℕ, zero, add-one, suc, ◌+◌, ◌<◌, if◌then◌else◌, Bool, true, false, ◌&&◌, Option, None, Some, List, [], ◌∷◌, ◌++◌, map, length, take, drop, replicate, refl, sym, ap, ◌∙◌, slice_index_or, slice_set, nat_eq, nat_lt, nat_le, arith}
+use Rattle.std.proofs.Common.{◌≡◌, ℕ, zero, add-one, suc, ◌+◌, ◌<◌, if◌then◌else◌, Bool, true, false, ◌&&◌, Option, None, Some, List, [], ◌∷◌, ◌++◌, map, length, take, drop, replicate, refl, sym, ap, ◌∙◌, slice_index_or, nat_eq, nat_lt, nat_le, arith}
 use Rattle.std.proofs.Math.Bool.{and-true}
 use Rattle.std.proofs.Math.Seq.{drop-cons, take-append_seam}
 use Rattle.std.proofs.lemmas.Bool.{and_from, and_parts, eqb-true}
-use Rattle.std.proofs.lemmas.List.{get_or_default, length-map, length-replicate, length-set}
+use Rattle.std.proofs.lemmas.List.{length-map, length-replicate}
 use Rattle.std.proofs.lemmas.List.Folds.{list_all-append, list_all-map}
 use Rattle.std.specs.List.{filter, list_all}
 use Rattle.std.specs.Prelude.{Box}
@@ -40,20 +40,6 @@ act_within_at r (b ∷ acts) (suc k) a inside at ok = act_within_at r acts k a (
 pub filled_alike : (xs ys : List (List ℕ)) → map (length {A = ℕ}) xs ≡ map (length {A = ℕ}) ys → are_filled ys ≡ true → are_filled xs ≡ true
 filled_alike xs ys same filled =
     sym (list_all-map (nat_lt 0) (length {A = ℕ}) xs) ∙ ap (list_all (nat_lt 0)) same ∙ list_all-map (nat_lt 0) (length {A = ℕ}) ys ∙ filled
-
-sizes_stay : (xs : List (List ℕ)) (a : ℕ) (words : List ℕ) → length words ≡ length (slice_index_or xs a []) → map (length {A = ℕ}) (slice_set xs a words) ≡ map (length {A = ℕ}) xs
-sizes_stay [] a words same = refl
-sizes_stay (x ∷ xs) zero words same = ap (λ (n : ℕ). n ∷ map length xs) same
-sizes_stay (x ∷ xs) (suc a) words same = ap (λ (ns : List ℕ). length x ∷ ns) (sizes_stay xs a words same)
-
--- another list of words in the place of one of the same length
-pub stored_sizes : (xs : List (List ℕ)) (a : ℕ) (old lent : List ℕ) (k word : ℕ) → a < length xs → old ≡ slice_index_or xs a old → lent ≡ old →
-    map (length {A = ℕ}) (slice_set xs a (take (length old) (slice_set lent k word ++ drop (length (slice_set lent k word)) old))) ≡ map (length {A = ℕ}) xs
-stored_sizes xs a old lent k word inside at is_old =
-    let new : List ℕ = slice_set lent k word in
-    let same : length new ≡ length old = length-set lent k word ∙ ap length is_old in
-    let kept : take (length old) (new ++ drop (length new) old) ≡ new = ap (λ (n : ℕ). take n (new ++ drop (length new) old)) (sym same) ∙ take-append_seam new (drop (length new) old) in
-    sizes_stay xs a (take (length old) (new ++ drop (length new) old)) (ap length kept ∙ same ∙ ap length at ∙ ap length (get_or_default xs a old [] inside))
 
 -- arrays are filled at first
 pub started_filled : (arrays : List Array) → are_lengths arrays ≡ true → are_filled (started arrays) ≡ true

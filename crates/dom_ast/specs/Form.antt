@@ -11,7 +11,6 @@ use Rattle.dom_ast.specs.declared.stmt.Stmt.TheOpen.{Stmt-F}
 use Rattle.dom_ast.specs.declared.stmt.Target.{Target}
 use Rattle.dom_ast.specs.declared.stmt.Target.TheVariants as target
 use Rattle.dom_ast.specs.declared.program.Head.{Head}
-use Rattle.dom_ast.specs.declared.program.Head.TheVariants as head
 use Rattle.dom_ast.specs.declared.program.Transaction.{Transaction}
 use Rattle.dom_ast.specs.declared.program.Program.{Program}
 

@@ -1,5 +1,5 @@
 -- What holds of a resolved program and of the lists that the passes make of it.
-use Rattle.std.specs.Prelude.{ℕ, suc, ◌+◌, Bool, true, false, not, ◌&&◌, ◌||◌, nat_eq, nat_lt, List, [], ◌∷◌, ◌++◌, flat_map, Option, Some, None}
+use Rattle.std.specs.Prelude.{ℕ, suc, Bool, true, false, not, ◌&&◌, ◌||◌, nat_eq, nat_lt, List, [], ◌∷◌, ◌++◌, flat_map, Option, Some, None}
 use Rattle.std.specs.List.{list_all}
 use Rattle.dom_ast.specs.declared.part.Place.{Place}
 use Rattle.dom_ast.specs.declared.part.Place.TheVariants as place

@@ -1,6 +1,7 @@
 pub mod CheckedForm
 pub mod Flanks
 pub mod Form
+pub mod HeadNames
 pub mod Kept
 pub mod Meaning
 pub mod Named

@@ -2,12 +2,12 @@
 use Rattle.std.specs.Prelude.{ℕ, ◌==◌, Bool, true, List, [], ◌∷◌, fold, Option, Some, None, if◌then◌else◌, slice_index, slice_set}
 use Rattle.std.specs.List.{filter}
 use Rattle.dom_words.specs.Operators.{bin_word, chosen, is_true, un_word}
-use Rattle.dom_words.specs.State.{Hash, Outcome, fetched, stored}
+use Rattle.dom_words.specs.State.{Hash, Outcome, fetched, started, stored}
 use Rattle.dom_ast.specs.declared.part.Place.{Place}
 use Rattle.dom_ast.specs.declared.part.Place.TheVariants as place
 use Rattle.dom_ast.specs.declared.part.Goal.{Goal}
 use Rattle.dom_ast.specs.declared.part.Goal.TheVariants as goal
-use Rattle.dom_ast.specs.Resolved.{PartForm, number, field, state, fresh, made, call, un, chain, choice, PartForms, no_parts, part, OpForms, no_ops, op, ActForm, assign, branch, ActForms, no_acts, act, BodyForm}
+use Rattle.dom_ast.specs.Resolved.{PartForm, number, field, state, fresh, made, call, un, chain, choice, PartForms, no_parts, part, OpForms, no_ops, op, ActForm, assign, branch, ActForms, no_acts, act, BodyForm, CheckedForm}
 
 -- what the names in an expression stand for
 pub record Names : Type 0 where
@@ -112,3 +112,14 @@ serial_packets hash bodies arrays (p ∷ ps) =
 abbrev pub serial_arrays : Hash → List BodyForm → List (List ℕ) → List (List ℕ) → List (List ℕ)
 serial_arrays hash bodies arrays [] = arrays
 serial_arrays hash bodies arrays (p ∷ ps) = serial_arrays hash bodies (one hash bodies p arrays).arrays ps
+
+-- what a serial run gives: the packets that come out, in order, and the state at the end
+pub record SerialOutcome : Type 0 where
+  pub packets : List (List ℕ)
+  pub arrays : List (List ℕ)
+
+-- the serial run of a program over packets, from the words that its arrays start with
+abbrev pub serial_run : Hash → CheckedForm → List (List ℕ) → SerialOutcome
+serial_run hash program packets =
+    let start = started program.arrays in
+    record { packets = serial_packets hash program.bodies start packets; arrays = serial_arrays hash program.bodies start packets }

@@ -1,5 +1,5 @@
 ghost use Rattle.std.specs.Prelude.{◌≡◌, ◌≤◌, [], length, map, true};
-ghost use Rattle.dom_words.specs.State.{are_lengths, state_words};
+ghost use Rattle.dom_words.specs.State.{are_lengths, start_with_words, state_words};
 ghost use Rattle.dom_ast.specs.Flanks.{are_flanked, flank_form, flanks_within};
 ghost use Rattle.dom_ast.specs.Straight.{straight_ranges};
 
@@ -33,6 +33,7 @@ pub struct Flanked {
     ghost few_fields: { length fields ≤ 64 },
     ghost few_arrays: { length arrays ≤ 32 },
     ghost lengths: { are_lengths arrays ≡ true },
+    ghost first_words: { start_with_words arrays ≡ true },
     ghost few_words: { state_words arrays ≤ 1048576 },
     ghost ranges: { flanks_within (straight_ranges (length fields) (length arrays) fresh) (map flank_form items) ≡ true },
     ghost flanks: { are_flanked [] [] (map flank_form items) ≡ true },

@@ -1,6 +1,6 @@
 ghost use Rattle.std.specs.Prelude.{◌≡◌, ◌≤◌, [], length, map, true};
 ghost use Rattle.dom_ast.specs.Kept.{are_within, have_one_index, keep_indexes, mentions_in};
-ghost use Rattle.dom_words.specs.State.{are_lengths, state_words};
+ghost use Rattle.dom_words.specs.State.{are_lengths, start_with_words, state_words};
 ghost use Rattle.dom_ast.specs.Straight.{step_form, step_visit, straight_ranges};
 
 use crate::part::{Goal, Part};
@@ -31,6 +31,7 @@ pub struct Straight {
     ghost few_fields: { length fields ≤ 64 },
     ghost few_arrays: { length arrays ≤ 32 },
     ghost lengths: { are_lengths arrays ≡ true },
+    ghost first_words: { start_with_words arrays ≡ true },
     ghost few_words: { state_words arrays ≤ 1048576 },
     ghost ranges: { are_within (straight_ranges (length fields) (length arrays) fresh) (map step_visit (map step_form steps)) ≡ true },
     ghost one_index: { have_one_index (mentions_in (map step_visit (map step_form steps))) ≡ true },

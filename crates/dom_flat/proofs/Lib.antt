@@ -1,3 +1,5 @@
 pub mod After
+mod Consistent
 pub mod Facts
+pub mod Positions
 pub mod Run

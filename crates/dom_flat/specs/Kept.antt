@@ -1,10 +1,12 @@
 -- What holds of a statement list.
-use Rattle.std.specs.Prelude.{ℕ, Bool, true, false, not, ◌&&◌, nat_eq, nat_lt, List, [], ◌∷◌, ◌++◌, length, map, replicate, slice_index_or}
+use Rattle.std.specs.Prelude.{ℕ, Bool, true, false, not, ◌&&◌, nat_eq, nat_le, nat_lt, List, [], ◌∷◌, ◌++◌, length, map, replicate, slice_index_or}
 use Rattle.std.specs.List.{list_all, list_any}
+use Rattle.dom_words.specs.State.{fits_word}
 use Rattle.dom_flat.specs.declared.line.Operand.{Operand}
 use Rattle.dom_flat.specs.declared.line.Operand.TheVariants.{Const, Value}
 use Rattle.dom_flat.specs.declared.line.Line.{Line}
 use Rattle.dom_flat.specs.declared.line.Line.TheVariants as line
+use Rattle.dom_flat.specs.Flanks.{Flank, fetch, store, plain, flank_of, is_array_below}
 use Rattle.dom_flat.specs.Lines.{makes, operands_of}
 
 -- a hash has as many arguments as its unit says
@@ -18,12 +20,30 @@ has_its_args (line.Hash unit modulus args) = nat_eq (length args) unit.args
 
 -- the array of a flank is one of so many
 abbrev pub has_array : ℕ → Line → Bool
-has_array arrays (line.Fetch array i) = nat_lt array arrays
-has_array arrays (line.Store array i value) = nat_lt array arrays
-has_array arrays (line.Un op a) = true
-has_array arrays (line.Bin op a b) = true
-has_array arrays (line.Cond c a b) = true
-has_array arrays (line.Hash unit modulus args) = true
+has_array arrays l = is_array_below arrays (flank_of l)
+
+-- a hash has a modulus of at most 2147483647
+abbrev pub has_small_modulus : Line → Bool
+has_small_modulus (line.Fetch array i) = true
+has_small_modulus (line.Store array i value) = true
+has_small_modulus (line.Un op a) = true
+has_small_modulus (line.Bin op a b) = true
+has_small_modulus (line.Cond c a b) = true
+has_small_modulus (line.Hash unit modulus args) = nat_le modulus 2147483647
+
+abbrev pub have_small_moduli : List Line → Bool
+have_small_moduli lines = list_all has_small_modulus lines
+
+-- a value, or a constant that is a word
+abbrev pub has_word : Operand → Bool
+has_word (Const w) = fits_word w
+has_word (Value v) = true
+
+abbrev pub have_words : List Operand → Bool
+have_words operands = list_all has_word operands
+
+abbrev pub lines_have_words : List Line → Bool
+lines_have_words lines = list_all (λ l. have_words (operands_of l)) lines
 
 abbrev pub lines_within : ℕ → List Line → Bool
 lines_within arrays lines = list_all (λ l. has_array arrays l && has_its_args l) lines
@@ -78,15 +98,26 @@ is_read_at reads a i = list_any (λ r. nat_eq r.array a && is_same r.index i) re
 abbrev pub is_written : List ℕ → ℕ → Bool
 is_written writes a = list_any (nat_eq a) writes
 
--- after these read and write flanks: no array is read twice or written twice, and a write flank stands after its array's
--- read flank and has its index
+-- a flank may stand after these reads and writes: no array is read twice or written twice, and a write flank stands after its
+-- array's read flank and has its index
+abbrev pub may_stand : List Read → List ℕ → Flank → Bool
+may_stand reads writes (fetch a i) = not (is_read reads a)
+may_stand reads writes (store a i v) = is_read_at reads a i && not (is_written writes a)
+may_stand reads writes plain = true
+
+-- the reads and the writes after a flank
+abbrev pub reads_after : Flank → List Read → List Read
+reads_after (fetch a i) reads = record { array = a; index = i } ∷ reads
+reads_after (store a i v) reads = reads
+reads_after plain reads = reads
+
+abbrev pub writes_after : Flank → List ℕ → List ℕ
+writes_after (fetch a i) writes = writes
+writes_after (store a i v) writes = a ∷ writes
+writes_after plain writes = writes
+
+-- after these reads and writes, each flank of the statements may stand where it does
 abbrev pub are_flanked : List Read → List ℕ → List Line → Bool
 are_flanked reads writes [] = true
-are_flanked reads writes (line.Fetch a i ∷ lines) =
-    not (is_read reads a) && are_flanked (record { array = a; index = i } ∷ reads) writes lines
-are_flanked reads writes (line.Store a i v ∷ lines) =
-    is_read_at reads a i && (not (is_written writes a) && are_flanked reads (a ∷ writes) lines)
-are_flanked reads writes (line.Un op a ∷ lines) = are_flanked reads writes lines
-are_flanked reads writes (line.Bin op a b ∷ lines) = are_flanked reads writes lines
-are_flanked reads writes (line.Cond c a b ∷ lines) = are_flanked reads writes lines
-are_flanked reads writes (line.Hash unit modulus args ∷ lines) = are_flanked reads writes lines
+are_flanked reads writes (l ∷ lines) =
+    may_stand reads writes (flank_of l) && are_flanked (reads_after (flank_of l) reads) (writes_after (flank_of l) writes) lines

@@ -1,4 +1,7 @@
+pub mod Flanks
+pub mod Form
 pub mod Kept
+pub mod Laws
 pub mod Lines
 pub mod Meaning
 pub mod Order

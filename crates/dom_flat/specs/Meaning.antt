@@ -1,20 +1,17 @@
 -- What a statement list makes of a packet and a state: as a run, and as what holds between its values.
-use Rattle.std.specs.Prelude.{◌≡◌, ℕ, ◌+◌, ◌%◌, ◌<◌, ◌==◌, List, [], ◌∷◌, ◌++◌, Some, fold, length, map, slice_get, slice_index, if◌then◌else◌}
-use Rattle.dom_words.specs.Operators.{bin_word, chosen, un_word}
+use Rattle.std.specs.Prelude.{◌≡◌, ℕ, ◌+◌, ◌<◌, List, [], ◌∷◌, ◌++◌, Some, fold, length, map, slice_get, slice_index}
+use Rattle.dom_words.specs.Operators.{bin_word, chosen, reduced, un_word}
 use Rattle.dom_words.specs.State.{Hash, Outcome, fetched, stored}
 use Rattle.dom_flat.specs.declared.line.Operand.{Operand}
 use Rattle.dom_flat.specs.declared.line.Operand.TheVariants.{Const, Value}
 use Rattle.dom_flat.specs.declared.line.Line.{Line}
 use Rattle.dom_flat.specs.declared.line.Line.TheVariants as line
+use Rattle.dom_flat.specs.Flanks.{Flank, fetch, store, plain, flank_of}
 
 -- the word of an operand, where val gives the word of each value
 abbrev pub operand_word : Operand → (ℕ → ℕ) → ℕ
 operand_word (Const w) val = w
 operand_word (Value v) val = val v
-
--- a word modulo a number; the modulus 0 is none
-abbrev pub reduced : ℕ → ℕ → ℕ
-reduced modulus word = if modulus == 0 then word else word % modulus
 
 -- the word that a statement makes; a write flank makes none, and 0 stands in its place
 abbrev pub line_word : Hash → Line → List (List ℕ) → (ℕ → ℕ) → ℕ
@@ -25,14 +22,15 @@ line_word hash (line.Bin op a b) arrays val = bin_word op (operand_word a val) (
 line_word hash (line.Cond c a b) arrays val = chosen (operand_word c val) (operand_word a val) (operand_word b val)
 line_word hash (line.Hash unit modulus args) arrays val = reduced modulus (hash unit (map (λ a. operand_word a val) args))
 
--- the arrays after a statement: a write flank alone changes them
+-- the arrays after a flank: a write flank alone changes them
+abbrev pub flank_arrays : Flank → List (List ℕ) → (ℕ → ℕ) → List (List ℕ)
+flank_arrays (fetch a i) arrays val = arrays
+flank_arrays (store a i v) arrays val = stored arrays a (operand_word i val) (operand_word v val)
+flank_arrays plain arrays val = arrays
+
+-- the arrays after a statement
 abbrev pub line_arrays : Line → List (List ℕ) → (ℕ → ℕ) → List (List ℕ)
-line_arrays (line.Fetch array i) arrays val = arrays
-line_arrays (line.Store array i value) arrays val = stored arrays array (operand_word i val) (operand_word value val)
-line_arrays (line.Un op a) arrays val = arrays
-line_arrays (line.Bin op a b) arrays val = arrays
-line_arrays (line.Cond c a b) arrays val = arrays
-line_arrays (line.Hash unit modulus args) arrays val = arrays
+line_arrays l arrays val = flank_arrays (flank_of l) arrays val
 
 -- the words of the arrays, and the words of all values so far
 pub record FlatEnv : Type 0 where
@@ -49,6 +47,10 @@ line_step hash env l = record {
 -- the statements one after another
 abbrev pub run_lines : Hash → FlatEnv → List Line → FlatEnv
 run_lines hash env lines = fold (line_step hash) env lines
+
+-- the word of each value at the end of a run
+abbrev pub values_after : Hash → FlatEnv → List Line → ℕ → ℕ
+values_after hash env lines = slice_index (run_lines hash env lines).values
 
 -- the values start with the packet's words
 abbrev pub flat_entering : List ℕ → List (List ℕ) → FlatEnv

@@ -1,10 +1,10 @@
 ghost use Rattle.std.specs.Prelude.{◌≡◌, [], ◌∷◌, false, length, map, slice_index, true};
 ghost use Rattle.dom_flat.specs.Kept.{are_below, has_its_args, is_below};
 ghost use Rattle.dom_flat.specs.Lines.{is_flank, operands_of};
-ghost use Rattle.dom_flat.specs.Meaning.{line_word, operand_word, reduced};
+ghost use Rattle.dom_flat.specs.Meaning.{line_word, operand_word};
 
 use crate::line::{Line, Operand};
-use dom_words::{HashName, HashUnits, apply_bin, apply_un, choose};
+use dom_words::{HashName, HashUnits, apply_bin, apply_un, choose, reduce};
 
 /// The word that a statement which is no flank makes, where `values` has the words of the values so far. Takes no memory.
 pub fn eval_one<H: HashUnits>(line: &Line, values: &[u32], hash: &H) -> u32
@@ -22,7 +22,7 @@ pub fn eval_one<H: HashUnits>(line: &Line, values: &[u32], hash: &H) -> u32
             unit,
             modulus,
             args,
-        } => modulo(hash_word(*unit, args.as_slice(), values, hash), *modulus),
+        } => reduce(hash_word(*unit, args.as_slice(), values, hash), *modulus),
     }
 }
 
@@ -48,11 +48,4 @@ fn hash_word<H: HashUnits>(unit: HashName, args: &[Operand], values: &[u32], has
         words[k] = word(*arg, values);
     }
     hash.apply(unit, &words[..args.len()])
-}
-
-// A word modulo a number; the modulus 0 is none.
-fn modulo(word: u32, modulus: u32) -> u32
-    ensures { result ≡ reduced modulus word }
-{
-    if modulus == 0 { word } else { word % modulus }
 }

@@ -3,6 +3,7 @@
 
 mod eval;
 mod flat;
+pub mod laws;
 mod line;
 
 pub use eval::eval_one;

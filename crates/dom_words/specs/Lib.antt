@@ -3,6 +3,7 @@ pub mod Names
 pub mod Number
 pub mod Operators
 pub mod Packet
+pub mod Spelling
 pub mod State
 pub mod Units
 pub mod formers

@@ -53,3 +53,7 @@ bin_word Or a b = truth_of (is_true a || is_true b)
 -- `c ? a : b`
 abbrev pub chosen : ℕ → ℕ → ℕ → ℕ
 chosen c a b = if is_true c then a else b
+
+-- a word modulo a number; the modulus 0 is none
+abbrev pub reduced : ℕ → ℕ → ℕ
+reduced modulus word = if modulus == 0 then word else word % modulus

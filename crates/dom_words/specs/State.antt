@@ -1,5 +1,5 @@
 -- State: arrays of words.
-use Rattle.std.specs.Prelude.{◌≡◌, ◌<◌, ◌^◌, ℕ, ◌%◌, Bool, ◌&&◌, nat_le, List, [], length, map, replicate, slice_index, slice_index_or, slice_set, sum}
+use Rattle.std.specs.Prelude.{◌≡◌, ◌<◌, ◌^◌, ℕ, ◌%◌, Bool, ◌&&◌, nat_le, nat_lt, List, [], length, map, replicate, slice_index, slice_index_or, slice_set, sum}
 use Rattle.std.specs.List.{list_all}
 use Rattle.dom_words.specs.declared.array.Array.{Array}
 use Rattle.dom_words.specs.declared.hash.HashName.{HashName}
@@ -16,6 +16,18 @@ IsSmallHash hash = (unit : HashName) (args : List ℕ) → hash unit args < 2 ^ 
 pub record Outcome : Type 0 where
   pub packet : List ℕ
   pub arrays : List (List ℕ)
+
+-- what is made of a packet and a state, by a hash
+abbrev pub Meaning : Type 0
+Meaning = Hash → List ℕ → List (List ℕ) → Outcome
+
+-- what has to hold of a hash, a packet and a state
+abbrev pub Premise : Type 1
+Premise = Hash → List ℕ → List (List ℕ) → Type 0
+
+-- two meanings agree wherever the premise holds
+abbrev pub AgreeUnder : Premise → Meaning → Meaning → Type 0
+AgreeUnder Holds f g = (hash : Hash) (packet : List ℕ) (state : List (List ℕ)) → Holds hash packet state → f hash packet state ≡ g hash packet state
 
 -- the words of array a, from 0
 abbrev pub array_of : List (List ℕ) → ℕ → List ℕ
@@ -47,6 +59,14 @@ is_length n = nat_le 1 n && nat_le n 1048576
 
 abbrev pub are_lengths : List Array → Bool
 are_lengths arrays = list_all (λ array. is_length array.length) arrays
+
+-- a number is a word of 32 bits
+abbrev pub fits_word : ℕ → Bool
+fits_word n = nat_lt n (2 ^ 32)
+
+-- what each array starts with is a word
+abbrev pub start_with_words : List Array → Bool
+start_with_words arrays = list_all (λ array. fits_word array.init) arrays
 
 -- the words of all arrays
 abbrev pub state_words : List Array → ℕ

@@ -9,6 +9,7 @@ mod number;
 mod operators;
 mod packet;
 mod seq;
+mod spelling;
 #[cfg(test)]
 mod tests;
 mod units;
@@ -18,6 +19,7 @@ pub use hash::{FnvUnits, HashName, HashUnits};
 pub use name::Name;
 pub use names::Names;
 pub use number::{read_count, read_word, signed};
-pub use operators::{BinOp, UnOp, apply_bin, apply_un, choose, element};
+pub use operators::{BinOp, UnOp, apply_bin, apply_un, choose, element, reduce};
 pub use packet::Packet;
-pub use seq::{Memory, Seq};
+pub use seq::{Memory, Numbers, Seq};
+pub use spelling::{is_forbidden, is_name};

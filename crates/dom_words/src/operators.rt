@@ -1,5 +1,5 @@
 ghost use Rattle.std.specs.Prelude.{◌≡◌, ◌%◌, ◌<◌, ◌≤◌};
-ghost use Rattle.dom_words.specs.Operators.{bin_word, chosen, truth_of, un_word};
+ghost use Rattle.dom_words.specs.Operators.{bin_word, chosen, reduced, truth_of, un_word};
 
 use crate::number::signed;
 
@@ -85,6 +85,13 @@ pub fn element(index: u32, length: u32) -> u32
     ensures within { result < length }
 {
     index % length
+}
+
+/// A word modulo `modulus`; the modulus 0 is none, and leaves the word as it is.
+pub fn reduce(word: u32, modulus: u32) -> u32
+    ensures { result ≡ reduced modulus word }
+{
+    if modulus == 0 { word } else { word % modulus }
 }
 
 fn divide(a: u32, b: u32) -> u32

@@ -13,6 +13,9 @@ pub struct Seq<T> {
     items: Vec<T>,
 }
 
+/// Numbers in order.
+pub type Numbers = Seq<u32>;
+
 impl<T> Model for Seq<T> {
     ghost use Rattle.std.specs.Prelude.{List};
     ghost use Rattle.std.specs.Coded.{coded_list};

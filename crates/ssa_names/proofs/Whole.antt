@@ -1,10 +1,10 @@
 -- What holds of items and outputs that are those of the definition.
 use Rattle.std.proofs.Common.{◌≡◌, ℕ, ◌^◌, ◌<◌, ◌≤◌, true, List, [], length, sym, ap, ◌∙◌, subst}
-use Rattle.dom_ast.specs.Flanks.{FlankForm, are_flanked, flanks_nodes, flanks_within}
+use Rattle.dom_words.specs.State.{AgreeUnder}
+use Rattle.dom_ast.specs.Flanks.{FlankForm, are_flanked, flanked_outcome, flanks_nodes, flanks_within}
 use Rattle.dom_ast.specs.Named.{NamedForm, are_named, are_outputs, makes_of, named_nodes, named_outcome}
 use Rattle.dom_ast.specs.Resolved.{PartForm}
 use Rattle.dom_ast.specs.Straight.{straight_ranges}
-use Rattle.ssa_names.specs.Meaning.{KeepMeaning}
 use Rattle.ssa_names.specs.Naming.{named, outputs_of}
 use Rattle.ssa_names.proofs.Kept.{named_goes, named_items, named_outputs, named_width}
 use Rattle.ssa_names.proofs.Means.{named_means}
@@ -22,7 +22,7 @@ module _ (fields arrays names : ℕ) (xs : List FlankForm) (flanks : are_flanked
   pub whole_width : length outputs ≡ fields
   whole_width = ap length those ∙ named_width fields arrays names xs flanks inside
 
-  pub whole_means : KeepMeaning fields xs items outputs
+  pub whole_means : AgreeUnder (λ hash packet state. length packet ≡ fields) (λ hash packet state. named_outcome hash items outputs packet state) (λ hash packet state. flanked_outcome hash xs packet state)
   whole_means hash packet start size =
       ap (λ (ys : List NamedForm). named_outcome hash ys outputs packet start) these
       ∙ ap (λ (os : List PartForm). named_outcome hash (named fields arrays names xs).items os packet start) those

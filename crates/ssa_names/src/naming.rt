@@ -1,9 +1,9 @@
 ghost use Rattle.std.specs.Prelude.{◌≡◌, ◌+◌, ◌^◌, ◌<◌, ◌≤◌, length, map, IfOk, OnOk};
-ghost use Rattle.dom_ast.specs.Flanks.{flank_form, flanks_nodes};
-ghost use Rattle.dom_ast.specs.Named.{named_form, named_nodes};
+ghost use Rattle.dom_words.specs.State.{AgreeUnder};
+ghost use Rattle.dom_ast.specs.Flanks.{flank_form, flanked_outcome, flanks_nodes};
+ghost use Rattle.dom_ast.specs.Named.{named_form, named_nodes, named_outcome};
 ghost use Rattle.dom_ast.specs.Resolved.{form};
 ghost use Rattle.dom_ast.specs.Straight.{step_form};
-ghost use Rattle.ssa_names.specs.Meaning.{KeepMeaning};
 ghost use Rattle.ssa_names.specs.Naming.{named, named_item, named_read, named_set, named_write, operand_form, outputs_of, plain};
 ghost use Rattle.ssa_names.specs.Tables.{current_of, naming_of};
 
@@ -23,7 +23,7 @@ pub fn name(alloc: Global, steps: Flanked) -> Result<Named, Memory>
     ensures arrays { IfOk result (λ r. r.arrays ≡ steps.arrays) }
     ensures items { IfOk result (λ r. map named_form r.items ≡ (named (length steps.fields) (length steps.arrays) steps.fresh (map flank_form steps.items)).items) }
     ensures outputs { IfOk result (λ r. map form r.outputs ≡ outputs_of (named (length steps.fields) (length steps.arrays) steps.fresh (map flank_form steps.items))) }
-    ensures means { IfOk result (λ r. KeepMeaning (length steps.fields) (map flank_form steps.items) (map named_form r.items) (map form r.outputs)) }
+    ensures means { IfOk result (λ r. AgreeUnder (λ hash packet state. length packet ≡ length steps.fields) (λ hash packet state. named_outcome hash (map named_form r.items) (map form r.outputs) packet state) (λ hash packet state. flanked_outcome hash (map flank_form steps.items) packet state)) }
     ensures few { IfOk result (λ r. named_nodes (map named_form r.items) (map form r.outputs) < 2 ^ 25) }
 {
     let Flanked {

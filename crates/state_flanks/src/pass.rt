@@ -1,5 +1,5 @@
-ghost use Rattle.std.specs.Prelude.{◌≡◌, ℕ, ◌<◌, ◌^◌, IfOk, List, map};
-ghost use Rattle.dom_words.specs.State.{Hash, IsStateOf};
+ghost use Rattle.std.specs.Prelude.{◌≡◌, ◌<◌, ◌^◌, IfOk, map};
+ghost use Rattle.dom_words.specs.State.{AgreeUnder, IsStateOf};
 ghost use Rattle.dom_ast.specs.Flanks.{flank_form, flanked_outcome, flanks_nodes};
 ghost use Rattle.dom_ast.specs.Straight.{step_form, steps_nodes, straight_outcome};
 ghost use Rattle.state_flanks.specs.WithFlanks.{with_flanks};
@@ -19,7 +19,7 @@ pub fn flank(alloc: Global, steps: Straight) -> Result<Flanked, Memory>
     ensures fresh { IfOk result (λ f. f.fresh ≡ steps.fresh) }
     ensures fields { IfOk result (λ f. f.fields ≡ steps.fields) }
     ensures arrays { IfOk result (λ f. f.arrays ≡ steps.arrays) }
-    ensures means { IfOk result (λ f. (hash : Hash) (packet : List ℕ) (state : List (List ℕ)) → IsStateOf steps.arrays state → flanked_outcome hash (map flank_form f.items) packet state ≡ straight_outcome hash (map step_form steps.steps) packet state) }
+    ensures means { IfOk result (λ f. AgreeUnder (λ hash packet state. IsStateOf steps.arrays state) (λ hash packet state. flanked_outcome hash (map flank_form f.items) packet state) (λ hash packet state. straight_outcome hash (map step_form steps.steps) packet state)) }
     ensures few { IfOk result (λ f. flanks_nodes (map flank_form f.items) < 2 ^ 23) }
 {
     let Straight {

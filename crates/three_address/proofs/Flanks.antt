@@ -1,24 +1,26 @@
 -- What holds of the statements of a list with one name for each value.
-use Rattle.std.proofs.Common.{◌≡◌, ℕ, zero, suc, ◌+◌, ◌<◌, ◌≤◌, ◌&&◌, ◌||◌, not, nat_eq, nat_lt, Bool, true, false, List, [], ◌∷◌, ◌++◌, length, map, refl, sym, ap, ◌∙◌, subst, arith, get_or, append_assoc, inl, inr, ⊎_elim, ◌⊎◌}
-use Rattle.std.specs.Prelude.{fold, ⊤}
-use Rattle.std.specs.List.{AllByRecursion as Every, list_all, list_any}
+use Rattle.std.proofs.Common.{◌≡◌, ℕ, suc, ◌+◌, ◌<◌, ◌≤◌, ◌&&◌, ◌||◌, not, nat_eq, nat_lt, Bool, true, false, List, [], ◌∷◌, ◌++◌, length, refl, sym, ap, ◌∙◌, subst, arith, get_or, append_assoc, ⊎_elim}
+use Rattle.std.specs.Prelude.{⊤}
+use Rattle.std.specs.List.{AllByRecursion as Every}
 use Rattle.std.proofs.Math.ListN.{get_or-append}
 use Rattle.std.proofs.Math.Seq.{get_or-append_seam}
-use Rattle.std.proofs.lemmas.Bool.{ltb-true, lt-ltb, eqb-true, eq-eqb, and_parts, and_from, or_cases, or_left, or_right, cases_lt}
+use Rattle.std.proofs.lemmas.Bool.{eqb-true, eq-eqb, and_parts, and_from, or_cases, or_left, or_right, cases_lt}
 use Rattle.std.proofs.lemmas.List.{append-nil, get_or_past, length_push}
 use Rattle.dom_ast.specs.Kept.{part_within, parts_within}
-use Rattle.dom_ast.specs.Named.{NamedForm, read, make, write, ReadForm, is_operand, is_number, is_field, is_value, is_same_operand, is_read, is_read_at, is_written, are_named, are_outputs, makes_of, named_ranges, operand_within}
-use Rattle.dom_ast.specs.Resolved.{PartForm, number, field, state, fresh, made, call, un, chain, choice, PartForms, no_parts, part, parts_of}
+use Rattle.dom_ast.specs.Named.{NamedForm, read, make, write, ReadForm, is_operand, is_same_operand, is_read, is_read_at, is_written, are_named, are_outputs, makes_of, named_ranges, operand_within}
+use Rattle.dom_ast.specs.Resolved.{PartForm, number, field, state, fresh, made, call, un, chain, choice, parts_of}
 use Rattle.dom_flat.specs.declared.line.Operand.{Operand}
 use Rattle.dom_flat.specs.declared.line.Operand.TheVariants.{Const, Value}
 use Rattle.dom_flat.specs.declared.line.Line.{Line}
 use Rattle.dom_flat.specs.declared.line.Line.TheVariants as line
 use Rattle.dom_flat.specs.Kept as flat
-use Rattle.dom_flat.specs.Kept.{Read, is_same, are_after, are_known, are_flanked, entered, is_known, lines_within, values_of}
+use Rattle.dom_flat.specs.Kept.{Read, is_same, are_after, are_known, are_flanked, entered, have_small_moduli, is_known, may_stand, reads_after, writes_after, lines_within, values_of}
+use Rattle.dom_flat.specs.Flanks.{flank_of}
 use Rattle.dom_flat.specs.Lines.{is_flank, makes as flat_makes}
+use Rattle.dom_flat.proofs.Facts.{flanked_first, flanked_rest}
 use Rattle.three_address.specs.Flattening.{AllFlattened, Flattened, all_flattened, as_is, ended, flattened}
 use Rattle.three_address.specs.Statements.{Draft, all_statements, draft, item_flattened, with_item, with_items}
-use Rattle.three_address.proofs.Grown.{AllPlaced, AreThere, Grown, Ordered, Placed, after_push, all_grow, all_place, grows, known_more, place_ended, values_append, places, there_grown, within_push}
+use Rattle.three_address.proofs.Grown.{AreThere, Grown, Ordered, after_push, all_grow, all_place, grows, known_more, moduli_push, place_ended, values_append, places, there_grown, within_push}
 
 abbrev pub none_made : List Bool
 none_made = []
@@ -26,21 +28,11 @@ none_made = []
 -- the arrays that statements read and write, the last first
 abbrev pub reads_of : List Read → List Line → List Read
 reads_of reads [] = reads
-reads_of reads (line.Fetch a i ∷ lines) = reads_of (record { array = a; index = i } ∷ reads) lines
-reads_of reads (line.Store a i v ∷ lines) = reads_of reads lines
-reads_of reads (line.Un o a ∷ lines) = reads_of reads lines
-reads_of reads (line.Bin o a b ∷ lines) = reads_of reads lines
-reads_of reads (line.Cond c a b ∷ lines) = reads_of reads lines
-reads_of reads (line.Hash unit modulus args ∷ lines) = reads_of reads lines
+reads_of reads (l ∷ lines) = reads_of (reads_after (flank_of l) reads) lines
 
 abbrev pub writes_of : List ℕ → List Line → List ℕ
 writes_of writes [] = writes
-writes_of writes (line.Fetch a i ∷ lines) = writes_of writes lines
-writes_of writes (line.Store a i v ∷ lines) = writes_of (a ∷ writes) lines
-writes_of writes (line.Un o a ∷ lines) = writes_of writes lines
-writes_of writes (line.Bin o a b ∷ lines) = writes_of writes lines
-writes_of writes (line.Cond c a b ∷ lines) = writes_of writes lines
-writes_of writes (line.Hash unit modulus args ∷ lines) = writes_of writes lines
+writes_of writes (l ∷ lines) = writes_of (writes_after (flank_of l) writes) lines
 
 -- flanks stand right, with these reads and writes in the end
 pub record Flanks (lines : List Line) (reads : List Read) (writes : List ℕ) : Type 0 where
@@ -50,35 +42,17 @@ pub record Flanks (lines : List Line) (reads : List Read) (writes : List ℕ) : 
 
 flanked_append : (reads : List Read) (writes : List ℕ) (a b : List Line) → are_flanked reads writes a ≡ true → are_flanked (reads_of reads a) (writes_of writes a) b ≡ true → are_flanked reads writes (a ++ b) ≡ true
 flanked_append reads writes [] b h g = g
-flanked_append reads writes (line.Fetch a i ∷ as_) b h g =
-    let p = and_parts (not (flat.is_read reads a)) (are_flanked (record { array = a; index = i } ∷ reads) writes as_) h in
-    and_from (not (flat.is_read reads a)) _ p.0 (flanked_append (record { array = a; index = i } ∷ reads) writes as_ b p.1 g)
-flanked_append reads writes (line.Store a i v ∷ as_) b h g =
-    let p = and_parts (flat.is_read_at reads a i) (not (flat.is_written writes a) && are_flanked reads (a ∷ writes) as_) h in
-    let q = and_parts (not (flat.is_written writes a)) (are_flanked reads (a ∷ writes) as_) p.1 in
-    and_from (flat.is_read_at reads a i) _ p.0 (and_from (not (flat.is_written writes a)) _ q.0 (flanked_append reads (a ∷ writes) as_ b q.1 g))
-flanked_append reads writes (line.Un o x ∷ as_) b h g = flanked_append reads writes as_ b h g
-flanked_append reads writes (line.Bin o x y ∷ as_) b h g = flanked_append reads writes as_ b h g
-flanked_append reads writes (line.Cond c x y ∷ as_) b h g = flanked_append reads writes as_ b h g
-flanked_append reads writes (line.Hash unit modulus args ∷ as_) b h g = flanked_append reads writes as_ b h g
+flanked_append reads writes (l ∷ as_) b h g =
+    and_from (may_stand reads writes (flank_of l)) _ (flanked_first reads writes l as_ h)
+    (flanked_append (reads_after (flank_of l) reads) (writes_after (flank_of l) writes) as_ b (flanked_rest reads writes l as_ h) g)
 
 reads_append : (reads : List Read) (a b : List Line) → reads_of reads (a ++ b) ≡ reads_of (reads_of reads a) b
 reads_append reads [] b = refl
-reads_append reads (line.Fetch a i ∷ as_) b = reads_append (record { array = a; index = i } ∷ reads) as_ b
-reads_append reads (line.Store a i v ∷ as_) b = reads_append reads as_ b
-reads_append reads (line.Un o x ∷ as_) b = reads_append reads as_ b
-reads_append reads (line.Bin o x y ∷ as_) b = reads_append reads as_ b
-reads_append reads (line.Cond c x y ∷ as_) b = reads_append reads as_ b
-reads_append reads (line.Hash unit modulus args ∷ as_) b = reads_append reads as_ b
+reads_append reads (l ∷ as_) b = reads_append (reads_after (flank_of l) reads) as_ b
 
 writes_append : (writes : List ℕ) (a b : List Line) → writes_of writes (a ++ b) ≡ writes_of (writes_of writes a) b
 writes_append writes [] b = refl
-writes_append writes (line.Fetch a i ∷ as_) b = writes_append writes as_ b
-writes_append writes (line.Store a i v ∷ as_) b = writes_append (a ∷ writes) as_ b
-writes_append writes (line.Un o x ∷ as_) b = writes_append writes as_ b
-writes_append writes (line.Bin o x y ∷ as_) b = writes_append writes as_ b
-writes_append writes (line.Cond c x y ∷ as_) b = writes_append writes as_ b
-writes_append writes (line.Hash unit modulus args ∷ as_) b = writes_append writes as_ b
+writes_append writes (l ∷ as_) b = writes_append (writes_after (flank_of l) writes) as_ b
 
 plain_reads : (reads : List Read) (lines : List Line) → Every (λ l. is_flank l ≡ false) lines → reads_of reads lines ≡ reads
 plain_reads reads [] p = refl
@@ -126,7 +100,7 @@ flanks_fetch lines reads writes a i e f =
 flanks_store : (lines : List Line) (reads : List Read) (writes : List ℕ) (a : ℕ) (i v : Operand) → flat.is_read_at reads a i ≡ true → not (flat.is_written writes a) ≡ true → Flanks lines reads writes → Flanks (lines ++ line.Store a i v ∷ []) reads (a ∷ writes)
 flanks_store lines reads writes a i v r w f =
     record {
-      stand = flanked_append [] [] lines (line.Store a i v ∷ []) f.stand (and_from (flat.is_read_at (reads_of [] lines) a i) _ (subst (λ (rs : List Read). flat.is_read_at rs a i ≡ true) (sym f.read_so) r) (and_from (not (flat.is_written (writes_of [] lines) a)) true (subst (λ (ws : List ℕ). not (flat.is_written ws a) ≡ true) (sym f.written_so) w) refl));
+      stand = flanked_append [] [] lines (line.Store a i v ∷ []) f.stand (and_from (flat.is_read_at (reads_of [] lines) a i && not (flat.is_written (writes_of [] lines) a)) true (and_from (flat.is_read_at (reads_of [] lines) a i) (not (flat.is_written (writes_of [] lines) a)) (subst (λ (rs : List Read). flat.is_read_at rs a i ≡ true) (sym f.read_so) r) (subst (λ (ws : List ℕ). not (flat.is_written ws a) ≡ true) (sym f.written_so) w)) refl);
       read_so = reads_append [] lines (line.Store a i v ∷ []) ∙ f.read_so;
       written_so = writes_append [] lines (line.Store a i v ∷ []) ∙ ap (λ (ws : List ℕ). a ∷ ws) f.written_so;
     }
@@ -318,7 +292,7 @@ module _ (fields arrays : ℕ) where
   make_drafted so_far reads writes d p h s =
       let f = flattened fields d.values d.lines 0 p in
       let g = grows fields d.values d.lines 0 p in
-      let placed = places fields arrays so_far d.values d.lines 0 p s.there s.lines h in
+      let placed = places fields arrays so_far d.values d.lines 0 p refl s.there s.lines h in
       record {
         size = sizes_more so_far true d.values f.operand s.size;
         lines = placed.lines;
@@ -331,7 +305,7 @@ module _ (fields arrays : ℕ) where
   operand_known : (so_far : List Bool) (values : List Operand) (lines : List Line) (p : PartForm) → Ordered fields arrays lines → AreThere fields arrays so_far values lines → operand_within fields so_far p ≡ true → is_known (values_of fields lines) (operand_of values p) ≡ true
   operand_known so_far values lines p s t h =
       let q = and_parts (is_operand p) (part_within (named_ranges fields so_far) p) h in
-      subst (λ (f : Flattened). is_known (values_of fields f.lines) f.operand ≡ true) (operand_flattened fields values lines p q.0) (places fields arrays so_far values lines 0 p t s q.1).operand
+      subst (λ (f : Flattened). is_known (values_of fields f.lines) f.operand ≡ true) (operand_flattened fields values lines p q.0) (places fields arrays so_far values lines 0 p refl t s q.1).operand
 
   read_drafted : (so_far : List Bool) (reads : List ReadForm) (writes : List ℕ) (d : Draft) (a : ℕ) (i : PartForm) → nat_lt a arrays ≡ true → operand_within fields so_far i ≡ true → not (is_read reads a) ≡ true → Drafted so_far reads writes d
       → Drafted (so_far ++ true ∷ []) (record { array = a; index = i } ∷ reads) writes (with_item fields d (read a i))
@@ -344,7 +318,7 @@ module _ (fields arrays : ℕ) where
       let is : ended fields d.lines l ≡ item_flattened fields d.values d.lines (read a i) =
       ap (λ (f : Flattened). ended fields f.lines (line.Fetch a f.operand)) (sym (operand_flattened fields d.values d.lines i q.0)) in
       let known = operand_known so_far d.values d.lines i s.lines s.there hi in
-      let placed = place_ended fields arrays d.lines l s.lines (and_from (is_known (values_of fields d.lines) o) true known refl) ha refl refl in
+      let placed = place_ended fields arrays d.lines l s.lines (and_from (is_known (values_of fields d.lines) o) true known refl) ha refl refl refl in
       let grown_there : AreThere fields arrays so_far d.values after = λ k e. more_known d.lines l (get_or d.values k (Const 0)) (s.there k e) in
       let before : IsBefore (length d.values) i = subst (λ (n : ℕ). IsBefore n i) (sym s.size) (within_before fields so_far i q.1) in
       let size = length_push d.values x in
@@ -377,7 +351,7 @@ module _ (fields arrays : ℕ) where
       let grown_there : AreThere fields arrays so_far d.values after = λ k e. more_known d.lines l (get_or d.values k (Const 0)) (s.there k e) in
       subst (λ (f : Flattened). Drafted (so_far ++ false ∷ []) reads (a ∷ writes) (draft f.lines (d.values ++ f.operand ∷ []))) is (record {
         size = sizes_more so_far false d.values x s.size;
-        lines = record { order = after_push (entered fields) d.lines l s.lines.order known; ranges = within_push arrays d.lines l s.lines.ranges ha refl };
+        lines = record { order = after_push (entered fields) d.lines l s.lines.order known; ranges = within_push arrays d.lines l s.lines.ranges ha refl; moduli = moduli_push d.lines l s.lines.moduli refl };
         there = there_more so_far false d.values after x s.size grown_there (λ e. absurd (let f : false ≡ true = e in cc));
         found = s.found;
         matched = matched_more d.values x reads s.found s.matched;
@@ -425,6 +399,7 @@ module _ (fields arrays : ℕ) where
   pub record Whole (all : AllFlattened) : Type 0 where
     pub order : are_after (entered fields) all.lines ≡ true
     pub ranges : lines_within arrays all.lines ≡ true
+    pub moduli : have_small_moduli all.lines ≡ true
     pub flanks : are_flanked [] [] all.lines ≡ true
     pub outputs : are_known (values_of fields all.lines) all.operands ≡ true
 
@@ -432,7 +407,7 @@ module _ (fields arrays : ℕ) where
   whole items outputs h o =
       let start : Drafted [] [] [] (draft [] []) = record {
         size = refl;
-        lines = record { order = refl; ranges = refl };
+        lines = record { order = refl; ranges = refl; moduli = refl };
         there = λ k e. absurd (let past : get_or none_made k false ≡ false = get_or_past none_made k false (omega arith) in cc);
         found = [];
         matched = tt;
@@ -443,7 +418,7 @@ module _ (fields arrays : ℕ) where
       let s = ending.drafted in
       let placed = all_place fields arrays (makes_of items) d.values d.lines (parts_of outputs) s.there s.lines (outputs_within (makes_of items) outputs o) in
       let flanks = flanks_grown d.lines _ s.found ending.writes (all_grow fields d.values d.lines (parts_of outputs)) s.flanks in
-      record { order = placed.lines.order; ranges = placed.lines.ranges; flanks = flanks.stand; outputs = placed.operands }
+      record { order = placed.lines.order; ranges = placed.lines.ranges; moduli = placed.lines.moduli; flanks = flanks.stand; outputs = placed.operands }
 
 pub outputs_count : (fields : ℕ) (values : List Operand) (lines : List Line) (ps : List PartForm) → length (all_flattened fields values lines (parts_of ps)).operands ≡ length ps
 outputs_count fields values lines [] = refl

@@ -1,14 +1,14 @@
 -- What holds of the statements of expressions: values are used after they are made, and numbers are in range.
-use Rattle.std.proofs.Common.{◌≡◌, ℕ, zero, suc, ◌+◌, ◌<◌, ◌≤◌, ◌==◌, ◌&&◌, nat_eq, nat_lt, Bool, true, false, List, [], ◌∷◌, ◌++◌, length, map, refl, sym, ap, ◌∙◌, subst, arith, get_or, append_assoc, inl, inr, ⊎_elim, ◌⊎◌, if◌then◌else◌}
-use Rattle.std.specs.List.{AllByRecursion as Every, list_all}
+use Rattle.std.proofs.Common.{◌≡◌, ℕ, suc, ◌+◌, ◌<◌, ◌≤◌, ◌==◌, ◌&&◌, nat_eq, nat_le, nat_lt, Bool, true, false, List, [], ◌∷◌, ◌++◌, length, map, refl, sym, ap, ◌∙◌, subst, get_or, append_assoc, ⊎_elim, if◌then◌else◌}
+use Rattle.std.specs.List.{AllByRecursion as Every}
 use Rattle.std.proofs.Math.ListN.{get_or-append}
 use Rattle.std.proofs.Math.Seq.{get_or-append_seam}
 use Rattle.std.proofs.lemmas.Bool.{ltb-true, eqb-true, eq-eqb, and_parts, and_from, cases_lt}
 use Rattle.std.proofs.lemmas.List.{append-nil, get_or-replicate, get_or_past, length-map, length-replicate, map-append}
 use Rattle.std.proofs.lemmas.List.Folds.{list_all-append}
 use Rattle.std.proofs.Common.{length-append}
-use Rattle.dom_words.specs.declared.hash.HashName.{HashName}
 use Rattle.dom_words.specs.declared.operators.BinOp.{BinOp}
+use Rattle.dom_words.specs.declared.operators.BinOp.TheVariants.{Rem}
 use Rattle.dom_ast.specs.Kept.{count_of, ops_within, part_within, parts_within}
 use Rattle.dom_ast.specs.Named.{named_ranges}
 use Rattle.dom_ast.specs.Resolved.{PartForm, number, field, state, fresh, made, call, un, chain, choice, PartForms, no_parts, part, OpForms, no_ops, op}
@@ -16,9 +16,9 @@ use Rattle.dom_flat.specs.declared.line.Operand.{Operand}
 use Rattle.dom_flat.specs.declared.line.Operand.TheVariants.{Const, Value}
 use Rattle.dom_flat.specs.declared.line.Line.{Line}
 use Rattle.dom_flat.specs.declared.line.Line.TheVariants as line
-use Rattle.dom_flat.specs.Kept.{are_after, are_known, entered, has_array, has_its_args, is_known, lines_within, values_of}
+use Rattle.dom_flat.specs.Kept.{are_after, are_known, entered, has_array, has_its_args, has_small_modulus, have_small_moduli, is_known, lines_within, values_of}
 use Rattle.dom_flat.specs.Lines.{is_flank, makes, operands_of}
-use Rattle.three_address.specs.Flattening.{AllFlattened, Flattened, all_flattened, ended, first_modulus, flattened, folded, folded_later}
+use Rattle.three_address.specs.Flattening.{AllFlattened, Flattened, all_flattened, ended, as_modulus, first_modulus, flattened, folded, folded_later, is_modulus, op_modulus, ops_modulus}
 
 -- more statements, none of them a flank
 pub record Grown (before after : List Line) : Type 0 where
@@ -130,11 +130,52 @@ within_push arrays lines l h a e =
     list_all-append (λ m. has_array arrays m && has_its_args m) lines (l ∷ [])
     ∙ and_from (lines_within arrays lines) (lines_within arrays (l ∷ [])) h (and_from (has_array arrays l && has_its_args l) true (and_from (has_array arrays l) (has_its_args l) a e) refl)
 
+pub moduli_push : (lines : List Line) (l : Line) → have_small_moduli lines ≡ true → has_small_modulus l ≡ true → have_small_moduli (lines ++ l ∷ []) ≡ true
+moduli_push lines l h e =
+    list_all-append has_small_modulus lines (l ∷ [])
+    ∙ and_from (have_small_moduli lines) (have_small_moduli (l ∷ [])) h (and_from (has_small_modulus l) true e refl)
+
+-- the modulus that a chain's first operand takes with it is small
+small_number : (m : ℕ) (b : Bool) → is_modulus m ≡ b → nat_le (if b then m else 0) 2147483647 ≡ true
+small_number m true e = (and_parts (nat_le 1 m) (nat_le m 2147483647) e).1
+small_number m false e = refl
+
+small_as : (p : PartForm) → nat_le (as_modulus p) 2147483647 ≡ true
+small_as (number m) = small_number m (is_modulus m) refl
+small_as (field f) = refl
+small_as (state a i) = refl
+small_as (fresh k) = refl
+small_as (made k) = refl
+small_as (call unit ps) = refl
+small_as (un o p) = refl
+small_as (chain p os) = refl
+small_as (choice c p q) = refl
+
+small_op : (o : BinOp) (p : PartForm) → nat_le (op_modulus o p) 2147483647 ≡ true
+small_op Rem p = small_as p
+small_op _ p = refl
+
+small_ops : (os : OpForms) → nat_le (ops_modulus os) 2147483647 ≡ true
+small_ops no_ops = refl
+small_ops (op o p os) = small_op o p
+
+small_first : (p : PartForm) (os : OpForms) → nat_le (first_modulus p os) 2147483647 ≡ true
+small_first (call unit ps) os = small_ops os
+small_first (number m) os = refl
+small_first (field f) os = refl
+small_first (state a i) os = refl
+small_first (fresh k) os = refl
+small_first (made k) os = refl
+small_first (un o p) os = refl
+small_first (chain p rest) os = refl
+small_first (choice c p q) os = refl
+
 module _ (fields arrays : ℕ) where
   -- values are used after they are made, and numbers are in range
   pub record Ordered (lines : List Line) : Type 0 where
     pub order : are_after (entered fields) lines ≡ true
     pub ranges : lines_within arrays lines ≡ true
+    pub moduli : have_small_moduli lines ≡ true
 
   pub record Placed (f : Flattened) : Type 0 where
     pub lines : Ordered f.lines
@@ -144,10 +185,10 @@ module _ (fields arrays : ℕ) where
     pub lines : Ordered f.lines
     pub operands : are_known (values_of fields f.lines) f.operands ≡ true
 
-  pub place_ended : (lines : List Line) (l : Line) → Ordered lines → are_known (values_of fields lines) (operands_of l) ≡ true → has_array arrays l ≡ true → has_its_args l ≡ true → makes l ≡ true → Placed (ended fields lines l)
-  place_ended lines l p k a e m =
+  pub place_ended : (lines : List Line) (l : Line) → Ordered lines → are_known (values_of fields lines) (operands_of l) ≡ true → has_array arrays l ≡ true → has_its_args l ≡ true → has_small_modulus l ≡ true → makes l ≡ true → Placed (ended fields lines l)
+  place_ended lines l p k a e small m =
       record {
-        lines = record { order = after_push (entered fields) lines l p.order k; ranges = within_push arrays lines l p.ranges a e };
+        lines = record { order = after_push (entered fields) lines l p.order k; ranges = within_push arrays lines l p.ranges a e; moduli = moduli_push lines l p.moduli small };
         operand = made_known fields lines l m;
       }
 
@@ -168,31 +209,31 @@ module _ (fields arrays : ℕ) where
     chain_placed false all rest x y = y
 
     mutual
-      pub places : (lines : List Line) (modulus : ℕ) (p : PartForm) → AreThere lines → Ordered lines → part_within (named_ranges fields so_far) p ≡ true → Placed (flattened fields values lines modulus p)
-      places lines modulus (number w) t s h = record { lines = s; operand = refl }
-      places lines modulus (field f) t s h = record { lines = s; operand = entered_known lines f h }
-      places lines modulus (state a i) t s h = record { lines = s; operand = refl }
-      places lines modulus (fresh k) t s h = record { lines = s; operand = refl }
-      places lines modulus (made k) t s h = record { lines = s; operand = t k h }
-      places lines modulus (call unit ps) t s h =
+      pub places : (lines : List Line) (modulus : ℕ) (p : PartForm) → nat_le modulus 2147483647 ≡ true → AreThere lines → Ordered lines → part_within (named_ranges fields so_far) p ≡ true → Placed (flattened fields values lines modulus p)
+      places lines modulus (number w) small t s h = record { lines = s; operand = refl }
+      places lines modulus (field f) small t s h = record { lines = s; operand = entered_known lines f h }
+      places lines modulus (state a i) small t s h = record { lines = s; operand = refl }
+      places lines modulus (fresh k) small t s h = record { lines = s; operand = refl }
+      places lines modulus (made k) small t s h = record { lines = s; operand = t k h }
+      places lines modulus (call unit ps) small t s h =
           let r = named_ranges fields so_far in
           let q = and_parts (nat_eq (count_of ps) unit.args) (parts_within r ps) h in
           let args = all_flattened fields values lines ps in
           let placed = all_place lines ps t s q.1 in
           let count : length args.operands ≡ unit.args = args_count lines ps ∙ eqb-true (count_of ps) unit.args q.0 in
-          place_ended args.lines (line.Hash unit modulus args.operands) placed.lines placed.operands refl (eq-eqb (length args.operands) unit.args count) refl
-      places lines modulus (un o p) t s h =
+          place_ended args.lines (line.Hash unit modulus args.operands) placed.lines placed.operands refl (eq-eqb (length args.operands) unit.args count) small refl
+      places lines modulus (un o p) small t s h =
           let a = flattened fields values lines 0 p in
-          let placed = places lines 0 p t s h in
-          place_ended a.lines (line.Un o a.operand) placed.lines (and_from (is_known (values_of fields a.lines) a.operand) true placed.operand refl) refl refl refl
-      places lines modulus (chain p os) t s h =
+          let placed = places lines 0 p refl t s h in
+          place_ended a.lines (line.Un o a.operand) placed.lines (and_from (is_known (values_of fields a.lines) a.operand) true placed.operand refl) refl refl refl refl
+      places lines modulus (chain p os) small t s h =
           let r = named_ranges fields so_far in
           let q = and_parts (part_within r p) (ops_within r os) h in
           let first = flattened fields values lines (first_modulus p os) p in
           let there = there_grown lines first.lines (grows fields values lines (first_modulus p os) p) t in
-          let placed = places lines (first_modulus p os) p t s q.0 in
+          let placed = places lines (first_modulus p os) p (small_first p os) t s q.0 in
           chain_placed (first_modulus p os == 0) (folded fields values first os) (folded_later fields values first os) (folds_place first os there placed q.1) (later_place first os there placed q.1)
-      places lines modulus (choice c p q) t s h =
+      places lines modulus (choice c p q) small t s h =
           let r = named_ranges fields so_far in
           let u = and_parts (part_within r c) (part_within r p && part_within r q) h in
           let w = and_parts (part_within r p) (part_within r q) u.1 in
@@ -204,13 +245,13 @@ module _ (fields arrays : ℕ) where
           let gb = grows fields values a.lines 0 q in
           let there = there_grown lines test.lines g t in
           let there' = there_grown test.lines a.lines ga there in
-          let x = places lines 0 c t s u.0 in
-          let y = places test.lines 0 p there x.lines w.0 in
-          let z = places a.lines 0 q there' y.lines w.1 in
+          let x = places lines 0 c refl t s u.0 in
+          let y = places test.lines 0 p refl there x.lines w.0 in
+          let z = places a.lines 0 q refl there' y.lines w.1 in
           let x' = known_grown fields test.lines b.lines test.operand (grown_more test.lines a.lines b.lines ga gb) x.operand in
           let y' = known_grown fields a.lines b.lines a.operand gb y.operand in
           place_ended b.lines (line.Cond test.operand a.operand b.operand) z.lines
-          (and_from (is_known (values_of fields b.lines) test.operand) _ x' (and_from (is_known (values_of fields b.lines) a.operand) _ y' (and_from (is_known (values_of fields b.lines) b.operand) true z.operand refl))) refl refl refl
+          (and_from (is_known (values_of fields b.lines) test.operand) _ x' (and_from (is_known (values_of fields b.lines) a.operand) _ y' (and_from (is_known (values_of fields b.lines) b.operand) true z.operand refl))) refl refl refl refl
 
       args_count : (lines : List Line) (ps : PartForms) → length (all_flattened fields values lines ps).operands ≡ count_of ps
       args_count lines no_parts = refl
@@ -224,7 +265,7 @@ module _ (fields arrays : ℕ) where
           let first = flattened fields values lines 0 p in
           let rest = all_flattened fields values first.lines ps in
           let g = grows fields values lines 0 p in
-          let x = places lines 0 p t s q.0 in
+          let x = places lines 0 p refl t s q.0 in
           let y = all_place first.lines ps (there_grown lines first.lines g t) x.lines q.1 in
           let x' = known_grown fields first.lines rest.lines first.operand (all_grow fields values first.lines ps) x.operand in
           record { lines = y.lines; operands = and_from (is_known (values_of fields rest.lines) first.operand) (are_known (values_of fields rest.lines) rest.operands) x' y.operands }
@@ -237,9 +278,9 @@ module _ (fields arrays : ℕ) where
           let b = flattened fields values a.lines 0 p in
           let l = line.Bin o a.operand b.operand in
           let g = grows fields values a.lines 0 p in
-          let y = places a.lines 0 p t s.lines q.0 in
+          let y = places a.lines 0 p refl t s.lines q.0 in
           let x' = known_grown fields a.lines b.lines a.operand g s.operand in
-          let next = place_ended b.lines l y.lines (and_from (is_known (values_of fields b.lines) a.operand) _ x' (and_from (is_known (values_of fields b.lines) b.operand) true y.operand refl)) refl refl refl in
+          let next = place_ended b.lines l y.lines (and_from (is_known (values_of fields b.lines) a.operand) _ x' (and_from (is_known (values_of fields b.lines) b.operand) true y.operand refl)) refl refl refl refl in
           folds_place (ended fields b.lines l) os (there_grown a.lines (b.lines ++ l ∷ []) (grown_by a.lines b.lines l refl g) t) next q.1
 
       later_place : (a : Flattened) (os : OpForms) → AreThere a.lines → Placed a → ops_within (named_ranges fields so_far) os ≡ true → Placed (folded_later fields values a os)

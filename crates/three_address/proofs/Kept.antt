@@ -1,34 +1,18 @@
 -- What is left when statements go that are not needed.
-use Rattle.std.proofs.Common.{◌≡◌, ℕ, zero, suc, ◌+◌, ◌-◌, ◌<◌, ◌≤◌, ◌&&◌, ◌||◌, not, nat_eq, nat_lt, Bool, true, false, List, [], ◌∷◌, ◌++◌, length, map, take, drop, refl, sym, ap, ◌∙◌, subst, arith, get_or, append_assoc, inl, inr, ⊎_elim, ◌⊎◌, if◌then◌else◌}
-use Rattle.std.specs.Prelude.{⊤}
-use Rattle.std.specs.List.{list_all, list_any}
+use Rattle.std.proofs.Common.{◌≡◌, ℕ, zero, suc, ◌+◌, ◌-◌, ◌<◌, ◌≤◌, ◌&&◌, ◌||◌, nat_eq, nat_lt, Bool, true, false, List, [], ◌∷◌, ◌++◌, length, map, take, drop, refl, sym, ap, ◌∙◌, subst, arith, get_or, append_assoc, inl, inr, ⊎_elim, ◌⊎◌, if◌then◌else◌}
+use Rattle.std.specs.List.{list_any}
 use Rattle.std.proofs.Math.ListN.{get_or-append}
 use Rattle.std.proofs.Math.Seq.{get_or-append_seam}
-use Rattle.std.proofs.lemmas.Bool.{ltb-true, lt-ltb, ltb-false, eqb-true, eq-eqb, and_parts, and_from, or_cases, or_left, or_right, cases_lt, cases_eq}
+use Rattle.std.proofs.lemmas.Bool.{ltb-true, lt-ltb, eq-eqb, and_parts, and_from, or_cases, or_left, or_right, cases_lt}
 use Rattle.std.proofs.lemmas.List.{append-nil, get_or_past, length_push, length-map}
 use Rattle.dom_flat.specs.declared.line.Operand.{Operand}
 use Rattle.dom_flat.specs.declared.line.Operand.TheVariants.{Const, Value}
 use Rattle.dom_flat.specs.declared.line.Line.{Line}
 use Rattle.dom_flat.specs.declared.line.Line.TheVariants as line
-use Rattle.dom_flat.specs.Kept.{are_after, are_known, entered, has_array, has_its_args, is_known, lines_within, values_of}
+use Rattle.dom_flat.specs.Kept.{are_after, are_known, has_array, has_its_args, has_small_modulus, have_small_moduli, is_known, lines_within}
 use Rattle.dom_flat.specs.Lines.{is_value, makes, operands_of, uses}
+use Rattle.dom_flat.proofs.Run.{makes-with, operands-with}
 use Rattle.three_address.specs.Needs.{count, is_kept_flank, is_used, kept, line_renumbered, needed, new_number, renumbered}
-
-pub operands_renumbered : (f : ℕ → ℕ) (l : Line) → operands_of (line_renumbered f l) ≡ map (renumbered f) (operands_of l)
-operands_renumbered f (line.Fetch a i) = refl
-operands_renumbered f (line.Store a i v) = refl
-operands_renumbered f (line.Un o a) = refl
-operands_renumbered f (line.Bin o a b) = refl
-operands_renumbered f (line.Cond c a b) = refl
-operands_renumbered f (line.Hash unit modulus args) = refl
-
-pub makes_renumbered : (f : ℕ → ℕ) (l : Line) → makes (line_renumbered f l) ≡ makes l
-makes_renumbered f (line.Fetch a i) = refl
-makes_renumbered f (line.Store a i v) = refl
-makes_renumbered f (line.Un o a) = refl
-makes_renumbered f (line.Bin o a b) = refl
-makes_renumbered f (line.Cond c a b) = refl
-makes_renumbered f (line.Hash unit modulus args) = refl
 
 -- of the values so far and those that are kept of them: each that is used is kept under its new number
 pub record Held (A : Type 0) (none : A) (number : ℕ → ℕ) (used : ℕ → Bool) (all left : List A) : Type 0 where
@@ -216,11 +200,11 @@ module _ (fields : ℕ) (whole : List Line) (outputs : List Operand) (marks : Li
       by_case true q =
           let new = line_renumbered number l in
           let us = map (line_renumbered number) (kept (later v lines) lines) in
-          let rest = later_left (left ++ makes new ∷ []) (next_kept Bool false v l lines all left (makes l) (makes new) s e q (makes_renumbered number l) h) in
+          let rest = later_left (left ++ makes new ∷ []) (next_kept Bool false v l lines all left (makes l) (makes new) s e q (makes-with (renumbered number) l) h) in
           let is : map (line_renumbered number) (kept (needed whole outputs v (l ∷ lines)) (l ∷ lines)) ≡ new ∷ us = ap (map (line_renumbered number)) (kept_one v l lines q) in
           let there = known_left all left (used v (l ∷ lines)) (operands_of l) h (λ w u. uses_kept v w l lines q u) known in
           record {
-            order = ap (are_after left) is ∙ and_from (are_known left (operands_of new)) _ (ap (are_known left) (operands_renumbered number l) ∙ there) rest.order;
+            order = ap (are_after left) is ∙ and_from (are_known left (operands_of new)) _ (ap (are_known left) (operands-with (renumbered number) l) ∙ there) rest.order;
             outs = ap (λ (ls : List Line). are_known (left ++ map makes ls) (map (renumbered number) outputs)) is
                 ∙ ap (λ (bs : List Bool). are_known bs (map (renumbered number) outputs)) (sym (append_assoc left (makes new ∷ []) (map makes us))) ∙ rest.outs;
           }
@@ -267,6 +251,23 @@ within_renumbered arrays f (line.Bin o a b) h = h
 within_renumbered arrays f (line.Cond c a b) h = h
 within_renumbered arrays f (line.Hash unit modulus args) h =
     ap (λ (n : ℕ). nat_eq n unit.args) (length-map args (renumbered f)) ∙ h
+
+modulus_renumbered : (f : ℕ → ℕ) (l : Line) → has_small_modulus (line_renumbered f l) ≡ has_small_modulus l
+modulus_renumbered f (line.Fetch a i) = refl
+modulus_renumbered f (line.Store a i v) = refl
+modulus_renumbered f (line.Un o a) = refl
+modulus_renumbered f (line.Bin o a b) = refl
+modulus_renumbered f (line.Cond c a b) = refl
+modulus_renumbered f (line.Hash unit modulus args) = refl
+
+pub kept_moduli : (f : ℕ → ℕ) (marks : List Bool) (lines : List Line) → have_small_moduli lines ≡ true → have_small_moduli (map (line_renumbered f) (kept marks lines)) ≡ true
+kept_moduli f [] lines h = refl
+kept_moduli f (mark ∷ marks) [] h = refl
+kept_moduli f (true ∷ marks) (l ∷ lines) h =
+    let p = and_parts (has_small_modulus l) (have_small_moduli lines) h in
+    and_from (has_small_modulus (line_renumbered f l)) _ (modulus_renumbered f l ∙ p.0) (kept_moduli f marks lines p.1)
+kept_moduli f (false ∷ marks) (l ∷ lines) h =
+    kept_moduli f marks lines (and_parts (has_small_modulus l) (have_small_moduli lines) h).1
 
 pub kept_within : (arrays : ℕ) (f : ℕ → ℕ) (marks : List Bool) (lines : List Line) → lines_within arrays lines ≡ true → lines_within arrays (map (line_renumbered f) (kept marks lines)) ≡ true
 kept_within arrays f [] lines h = refl

@@ -1,15 +1,14 @@
 -- The flanks that are left when statements go that are not needed.
-use Rattle.std.proofs.Common.{◌≡◌, ℕ, zero, suc, ◌+◌, ◌&&◌, ◌||◌, not, nat_eq, Bool, true, false, List, [], ◌∷◌, map, refl, sym, ap, ◌∙◌, subst, inl, inr, ⊎_elim, ◌⊎◌}
-use Rattle.std.specs.List.{AllByRecursion as Every, list_any}
-use Rattle.std.proofs.lemmas.Bool.{eqb-true, eq-eqb, and_parts, and_from, or_cases, or_left, or_right, not-true}
+use Rattle.std.proofs.Common.{◌≡◌, ℕ, suc, ◌&&◌, ◌||◌, not, nat_eq, Bool, true, false, List, [], ◌∷◌, map, refl, sym, ap, ◌∙◌, subst, ⊎_elim}
+use Rattle.std.specs.List.{AllByRecursion as Every}
+use Rattle.std.proofs.lemmas.Bool.{eqb-true, eq-eqb, and_parts, and_from, or_cases, or_left, or_right}
 use Rattle.dom_flat.specs.declared.line.Operand.{Operand}
-use Rattle.dom_flat.specs.declared.line.Operand.TheVariants.{Const, Value}
 use Rattle.dom_flat.specs.declared.line.Line.{Line}
 use Rattle.dom_flat.specs.declared.line.Line.TheVariants as line
 use Rattle.dom_flat.specs.Kept.{Read, is_read, is_read_at, is_same, is_written, are_flanked}
 use Rattle.dom_flat.specs.Lines.{stores_to}
 use Rattle.dom_flat.proofs.Facts.{same_operand}
-use Rattle.three_address.specs.Needs.{is_kept_flank, is_stored, is_used, kept, line_renumbered, needed, renumbered}
+use Rattle.three_address.specs.Needs.{is_stored, is_used, kept, line_renumbered, needed, renumbered}
 use Rattle.three_address.proofs.Flanks.{same_itself}
 use Rattle.three_address.proofs.Kept.{kept_none, kept_one, later, mark, number}
 
@@ -100,12 +99,13 @@ module _ (fields : ℕ) (whole : List Line) (outputs : List Operand) (marks : Li
       let p = and_parts (not (is_read all a)) (are_flanked (record { array = a; index = i } ∷ all) writes lines) h in
       fetch_left v a i lines all left writes r p.0 (λ now rests. flanks_left (suc v) lines (record { array = a; index = i } ∷ all) now writes o.1 rests p.1)
   flanks_left v (line.Store a i w ∷ lines) all left writes o r h =
-      let p = and_parts (is_read_at all a i) (not (is_written writes a) && are_flanked all (a ∷ writes) lines) h in
-      let q = and_parts (not (is_written writes a)) (are_flanked all (a ∷ writes) lines) p.1 in
+      let p = and_parts (is_read_at all a i && not (is_written writes a)) (are_flanked all (a ∷ writes) lines) h in
+      let q = and_parts (is_read_at all a i) (not (is_written writes a)) p.0 in
       let stays = or_end (is_used outputs (kept (later fields whole outputs marks v lines) lines) v) in
       ap (are_flanked left writes) (kept_is v (line.Store a i w) lines stays)
-      ∙ and_from (is_read_at left a (renumber i)) (not (is_written writes a) && are_flanked left (a ∷ writes) (us (suc v) lines)) (r.same a i (o.0 a (eq-eqb a a refl)) p.0)
-      (and_from (not (is_written writes a)) (are_flanked left (a ∷ writes) (us (suc v) lines)) q.0 (flanks_left (suc v) lines all left (a ∷ writes) o.1 r q.1))
+      ∙ and_from (is_read_at left a (renumber i) && not (is_written writes a)) (are_flanked left (a ∷ writes) (us (suc v) lines))
+      (and_from (is_read_at left a (renumber i)) (not (is_written writes a)) (r.same a i (o.0 a (eq-eqb a a refl)) q.0) q.1)
+      (flanks_left (suc v) lines all left (a ∷ writes) o.1 r p.1)
   flanks_left v (line.Un u x ∷ lines) all left writes o r h = plain v (line.Un u x) lines left writes (λ ms. refl) (flanks_left (suc v) lines all left writes o.1 r h)
   flanks_left v (line.Bin u x y ∷ lines) all left writes o r h = plain v (line.Bin u x y) lines left writes (λ ms. refl) (flanks_left (suc v) lines all left writes o.1 r h)
   flanks_left v (line.Cond c x y ∷ lines) all left writes o r h = plain v (line.Cond c x y) lines left writes (λ ms. refl) (flanks_left (suc v) lines all left writes o.1 r h)

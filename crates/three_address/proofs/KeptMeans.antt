@@ -1,56 +1,23 @@
 -- The statements that are kept mean what all statements mean.
-use Rattle.std.proofs.Common.{◌≡◌, ℕ, zero, suc, ◌+◌, ◌<◌, ◌≤◌, ◌&&◌, ◌||◌, Bool, true, false, List, [], ◌∷◌, ◌++◌, length, map, refl, sym, ap, ◌∙◌, subst, arith, get_or}
-use Rattle.std.specs.Prelude.{fold, slice_index}
-use Rattle.std.specs.List.{AllByRecursion as Every}
+use Rattle.std.proofs.Common.{◌≡◌, ℕ, suc, ◌+◌, ◌||◌, Bool, true, false, List, [], ◌∷◌, length, map, refl, sym, ap, ◌∙◌, subst, arith}
+use Rattle.std.specs.Prelude.{slice_index}
 use Rattle.std.proofs.lemmas.Bool.{ltb-true, eq-eqb, or_left, or_right, and_parts}
 use Rattle.std.proofs.lemmas.List.{length_push, length-replicate}
-use Rattle.dom_words.specs.Operators.{bin_word, chosen, un_word}
-use Rattle.dom_words.specs.State.{Hash, Outcome, fetched, stored}
+use Rattle.dom_words.specs.State.{Hash, Outcome}
 use Rattle.dom_flat.specs.declared.line.Operand.{Operand}
 use Rattle.dom_flat.specs.declared.line.Operand.TheVariants.{Const, Value}
 use Rattle.dom_flat.specs.declared.line.Line.{Line}
 use Rattle.dom_flat.specs.declared.line.Line.TheVariants as line
 use Rattle.dom_flat.specs.Kept.{are_after, are_below, are_known, entered, is_below, values_of}
 use Rattle.dom_flat.specs.Lines.{is_value, operands_of, uses}
-use Rattle.dom_flat.specs.Meaning.{FlatEnv, flat_end, flat_entering, flat_outcome, line_arrays, line_step, line_word, operand_word, reduced, run_lines}
+use Rattle.dom_flat.specs.Meaning.{FlatEnv, flat_entering, flat_outcome, line_arrays, line_step, line_word, operand_word, run_lines}
 use Rattle.dom_flat.specs.Order.{AreEarlier}
 use Rattle.dom_flat.proofs.Facts.{all_known_below, are_earlier}
-use Rattle.three_address.specs.Flattening.{AllFlattened}
+use Rattle.dom_flat.proofs.Run.{HaveWords, length_run, line_arrays-with, line_word-with, words-with}
 use Rattle.three_address.specs.Needs.{is_kept_flank, is_used, kept, line_renumbered, needed, new_number, renumbered}
 use Rattle.three_address.specs.Statements.{all_of, needed_only}
 use Rattle.three_address.proofs.Grown.{length_values}
-use Rattle.three_address.proofs.Kept.{Held, Stands, held_start, kept_none, kept_one, later, mark, next_dropped, next_kept, stands_next, used, uses_kept}
-
--- operands with new numbers have the old words
-abbrev Agree : (ℕ → ℕ) → (ℕ → ℕ) → (ℕ → ℕ) → List Operand → Type 0
-Agree number new old os = Every (λ o. operand_word (renumbered number o) new ≡ operand_word o old) os
-
-args_agree : (number new old : ℕ → ℕ) (os : List Operand) → Agree number new old os → map (λ o. operand_word o new) (map (renumbered number) os) ≡ map (λ o. operand_word o old) os
-args_agree number new old [] p = refl
-args_agree number new old (o ∷ os) p =
-    ap (λ (w : ℕ). w ∷ map (λ u. operand_word u new) (map (renumbered number) os)) p.0 ∙ ap (λ (ws : List ℕ). operand_word o old ∷ ws) (args_agree number new old os p.1)
-
-word_agrees : (hash : Hash) (l : Line) (arrays : List (List ℕ)) (number new old : ℕ → ℕ) → Agree number new old (operands_of l) → line_word hash (line_renumbered number l) arrays new ≡ line_word hash l arrays old
-word_agrees hash (line.Fetch a i) arrays number new old p = ap (fetched arrays a) p.0
-word_agrees hash (line.Store a i v) arrays number new old p = refl
-word_agrees hash (line.Un o a) arrays number new old p = ap (un_word o) p.0
-word_agrees hash (line.Bin o a b) arrays number new old p =
-    ap (λ (x : ℕ). bin_word o x (operand_word (renumbered number b) new)) p.0 ∙ ap (bin_word o (operand_word a old)) p.1.0
-word_agrees hash (line.Cond c a b) arrays number new old p =
-    ap (λ (x : ℕ). chosen x (operand_word (renumbered number a) new) (operand_word (renumbered number b) new)) p.0
-    ∙ ap (λ (x : ℕ). chosen (operand_word c old) x (operand_word (renumbered number b) new)) p.1.0
-    ∙ ap (λ (x : ℕ). chosen (operand_word c old) (operand_word a old) x) p.1.1.0
-word_agrees hash (line.Hash unit modulus args) arrays number new old p =
-    ap (λ (ws : List ℕ). reduced modulus (hash unit ws)) (args_agree number new old args p)
-
-arrays_agree : (l : Line) (arrays : List (List ℕ)) (number new old : ℕ → ℕ) → Agree number new old (operands_of l) → line_arrays (line_renumbered number l) arrays new ≡ line_arrays l arrays old
-arrays_agree (line.Fetch a i) arrays number new old p = refl
-arrays_agree (line.Store a i v) arrays number new old p =
-    ap (λ (x : ℕ). stored arrays a x (operand_word (renumbered number v) new)) p.0 ∙ ap (stored arrays a (operand_word i old)) p.1.0
-arrays_agree (line.Un o a) arrays number new old p = refl
-arrays_agree (line.Bin o a b) arrays number new old p = refl
-arrays_agree (line.Cond c a b) arrays number new old p = refl
-arrays_agree (line.Hash unit modulus args) arrays number new old p = refl
+use Rattle.three_address.proofs.Kept.{Held, Stands, held_start, kept_none, kept_one, mark, next_dropped, next_kept, stands_next, used, uses_kept}
 
 -- a statement that is not needed leaves the state
 dropped_arrays : (whole : List Line) (l : Line) (arrays : List (List ℕ)) (val : ℕ → ℕ) (b : Bool) → (b || is_kept_flank whole l) ≡ false → line_arrays l arrays val ≡ arrays
@@ -62,7 +29,7 @@ dropped_arrays whole (line.Bin o x y) arrays val b e = refl
 dropped_arrays whole (line.Cond c x y) arrays val b e = refl
 dropped_arrays whole (line.Hash unit modulus args) arrays val b e = refl
 
-agree_held : (number : ℕ → ℕ) (u : ℕ → Bool) (all left : List ℕ) (os : List Operand) → Held ℕ 0 number u all left → ((w : ℕ) → uses w os ≡ true → u w ≡ true) → are_below (length all) os ≡ true → Agree number (slice_index left) (slice_index all) os
+agree_held : (number : ℕ → ℕ) (u : ℕ → Bool) (all left : List ℕ) (os : List Operand) → Held ℕ 0 number u all left → ((w : ℕ) → uses w os ≡ true → u w ≡ true) → are_below (length all) os ≡ true → HaveWords (renumbered number) (slice_index left) (slice_index all) os
 agree_held number u all left [] h less e = tt
 agree_held number u all left (o ∷ os) h less e =
     let p = and_parts (is_below (length all) o) (are_below (length all) os) e in
@@ -92,12 +59,12 @@ module _ (hash : Hash) (fields : ℕ) (whole : List Line) (outputs : List Operan
       by_case : (b : Bool) → mark fields whole outputs marks v l lines ≡ b → Ran env now v (l ∷ lines)
       by_case true q =
           let new = line_renumbered number l in
-          let agree : Agree number (slice_index now.values) (slice_index env.values) (operands_of l) =
+          let agree : HaveWords (renumbered number) (slice_index now.values) (slice_index env.values) (operands_of l) =
           agree_held number (used fields whole outputs marks v (l ∷ lines)) env.values now.values (operands_of l) h (λ w x. uses_kept fields whole outputs marks v w l lines q x) (subst (λ (n : ℕ). are_below n (operands_of l) ≡ true) e below) in
           let word : line_word hash new now.arrays (slice_index now.values) ≡ line_word hash l env.arrays (slice_index env.values) =
-          word_agrees hash l now.arrays number (slice_index now.values) (slice_index env.values) agree ∙ ap (λ (x : List (List ℕ)). line_word hash l x (slice_index env.values)) same in
+          line_word-with (renumbered number) hash l now.arrays (slice_index now.values) (slice_index env.values) agree ∙ ap (λ (x : List (List ℕ)). line_word hash l x (slice_index env.values)) same in
           let state : line_arrays new now.arrays (slice_index now.values) ≡ line_arrays l env.arrays (slice_index env.values) =
-          arrays_agree l now.arrays number (slice_index now.values) (slice_index env.values) agree ∙ ap (λ (x : List (List ℕ)). line_arrays l x (slice_index env.values)) same in
+          line_arrays-with (renumbered number) l now.arrays (slice_index now.values) (slice_index env.values) agree ∙ ap (λ (x : List (List ℕ)). line_arrays l x (slice_index env.values)) same in
           let held = next_kept fields whole outputs marks ℕ 0 v l lines env.values now.values (line_word hash l env.arrays (slice_index env.values)) (line_word hash new now.arrays (slice_index now.values)) s e q word h in
           let r = rest (line_step hash now new) held state in
           let is : us v (l ∷ lines) ≡ new ∷ us (suc v) lines = ap (map (line_renumbered number)) (kept_one fields whole outputs marks v l lines q) in
@@ -120,13 +87,6 @@ module _ (hash : Hash) (fields : ℕ) (whole : List Line) (outputs : List Operan
       let next : suc v ≡ length (line_step hash env l).values = (let p = length_push env.values (line_word hash l env.arrays (slice_index env.values)) in omega arith) in
       run_one v l lines env now s e h same earlier.0 (λ now held state. runs_alike (suc v) lines (line_step hash env l) now (stands_next fields whole outputs marks v l lines s) next held state earlier.1)
 
-length_run : (hash : Hash) (env : FlatEnv) (lines : List Line) → length (run_lines hash env lines).values ≡ length env.values + length lines
-length_run hash env [] = omega arith
-length_run hash env (l ∷ lines) =
-    let p = length_push env.values (line_word hash l env.arrays (slice_index env.values)) in
-    let q = length_run hash (line_step hash env l) lines in
-    omega arith
-
 abbrev outcome : List ℕ → List (List ℕ) → Outcome
 outcome p a = record { packet = p; arrays = a }
 
@@ -144,6 +104,6 @@ needed_mean hash fields lines outputs packet state fits order known =
     let below : are_below (length (run_lines hash env lines).values) outputs ≡ true =
     subst (λ (n : ℕ). are_below n outputs ≡ true) (let n : length (values_of fields lines) ≡ length (run_lines hash env lines).values = (let m = length_values fields lines in omega arith) in n) (all_known_below (values_of fields lines) outputs known) in
     let agree = agree_held number_is (is_used outputs []) (run_lines hash env lines).values (run_lines hash env (needed_only fields (all_of lines outputs)).lines).values outputs r.held (λ w q. or_left (uses w outputs) false q) below in
-    let out = args_agree number_is (slice_index (run_lines hash env (needed_only fields (all_of lines outputs)).lines).values) (slice_index (run_lines hash env lines).values) outputs agree in
+    let out = words-with (renumbered number_is) (slice_index (run_lines hash env (needed_only fields (all_of lines outputs)).lines).values) (slice_index (run_lines hash env lines).values) outputs agree in
     ap (λ (p : List ℕ). outcome p (run_lines hash env (needed_only fields (all_of lines outputs)).lines).arrays) out
     ∙ ap (outcome (map (λ o. operand_word o (slice_index (run_lines hash env lines).values)) outputs)) r.arrays

@@ -1,19 +1,18 @@
 -- The statements of a list with one name for each value mean what the list means.
-use Rattle.std.proofs.Common.{◌≡◌, ℕ, zero, suc, ◌+◌, ◌%◌, ◌<◌, ◌≤◌, ◌==◌, ◌&&◌, nat_eq, nat_le, nat_lt, Bool, true, false, List, [], ◌∷◌, ◌++◌, length, map, refl, sym, ap, ◌∙◌, subst, arith, append_assoc, get_or, not, inl, inr, ⊎_elim, ◌⊎◌, if◌then◌else◌}
-use Rattle.std.specs.Prelude.{ℤ, fold, int_rem, pos, slice_index}
+use Rattle.std.proofs.Common.{◌≡◌, ℕ, suc, ◌+◌, ◌%◌, ◌<◌, ◌≤◌, ◌==◌, ◌&&◌, nat_eq, nat_le, nat_lt, Bool, true, false, List, [], ◌∷◌, ◌++◌, length, map, refl, sym, ap, ◌∙◌, subst, arith, append_assoc, get_or, not, inl, inr, ⊎_elim, ◌⊎◌, if◌then◌else◌}
+use Rattle.std.specs.Prelude.{ℤ, int_rem, pos, slice_index}
 use Rattle.std.specs.Int.{w32}
 use Rattle.std.specs.List.{AllByRecursion as Every}
 use Rattle.std.proofs.Math.ListN.{get_or-append}
 use Rattle.std.proofs.Math.Seq.{get_or-append_seam}
-use Rattle.std.proofs.lemmas.Bool.{ltb-true, lt-ltb, eqb-true, eq-eqb, leb-true, ne_eqb, and_parts, and_from, cases_lt}
+use Rattle.std.proofs.lemmas.Bool.{ltb-true, lt-ltb, eqb-true, leb-true, ne_eqb, and_parts, cases_lt}
 use Rattle.std.proofs.lemmas.Int.{to_z_pos}
 use Rattle.std.proofs.lemmas.List.{append-nil, get_or_past, length_push}
 use Rattle.std.proofs.lemmas.List.Sums.{fold-append}
 use Rattle.std.proofs.Common.{length-append}
 use Rattle.dom_words.specs.Number.{signed_of}
-use Rattle.dom_words.specs.Operators.{bin_word, chosen, un_word, word_of}
+use Rattle.dom_words.specs.Operators.{bin_word, chosen, reduced, un_word, word_of}
 use Rattle.dom_words.specs.State.{Hash, IsSmallHash, Outcome, fetched, stored}
-use Rattle.dom_words.specs.declared.hash.HashName.{HashName}
 use Rattle.dom_words.specs.declared.operators.BinOp.{BinOp}
 use Rattle.dom_words.specs.declared.operators.BinOp.TheVariants as binop
 use Rattle.dom_ast.specs.Kept.{count_of, ops_within, part_within, parts_within}
@@ -24,14 +23,15 @@ use Rattle.dom_flat.specs.declared.line.Operand.{Operand}
 use Rattle.dom_flat.specs.declared.line.Operand.TheVariants.{Const, Value}
 use Rattle.dom_flat.specs.declared.line.Line.{Line}
 use Rattle.dom_flat.specs.declared.line.Line.TheVariants as line
-use Rattle.dom_flat.specs.Kept.{are_below, is_below}
+use Rattle.dom_flat.specs.Kept.{is_below}
 use Rattle.dom_flat.specs.Lines.{is_flank}
-use Rattle.dom_flat.specs.Meaning.{FlatEnv, flat_entering, flat_outcome, line_arrays, line_step, line_word, operand_word, reduced, run_lines}
+use Rattle.dom_flat.proofs.Run.{length_run}
+use Rattle.dom_flat.specs.Meaning.{FlatEnv, flat_entering, flat_outcome, line_arrays, line_step, line_word, operand_word, run_lines}
 use Rattle.dom_flat.proofs.Run.{run_kept}
-use Rattle.three_address.specs.Flattening.{AllFlattened, Flattened, all_flattened, as_modulus, ended, first_modulus, flattened, folded, folded_later, is_modulus, op_modulus, ops_modulus}
+use Rattle.three_address.specs.Flattening.{AllFlattened, Flattened, all_flattened, as_modulus, ended, first_modulus, flattened, folded, folded_later, is_modulus, op_modulus}
 use Rattle.three_address.specs.Statements.{Draft, all_statements, draft, with_item, with_items}
 use Rattle.three_address.proofs.Flanks.{none_made, outputs_within}
-use Rattle.three_address.proofs.Grown.{Grown, all_grow, folds_grow, grown_by, grown_more, grows}
+use Rattle.three_address.proofs.Grown.{Grown, all_grow, grown_by, grown_more, grows}
 
 abbrev outcome : List ℕ → List (List ℕ) → Outcome
 outcome p a = record { packet = p; arrays = a }
@@ -127,15 +127,8 @@ module _ (hash : Hash) (fields : ℕ) (packet : List ℕ) (start : List (List �
   after_one : (lines : List Line) (l : Line) → after (lines ++ l ∷ []) ≡ line_step hash (after lines) l
   after_one lines l = fold-append (line_step hash) (flat_entering packet start) lines (l ∷ [])
 
-  length_run : (env : FlatEnv) (lines : List Line) → length (run_lines hash env lines).values ≡ length env.values + length lines
-  length_run env [] = omega arith
-  length_run env (l ∷ lines) =
-      let p = length_push env.values (line_word hash l env.arrays (slice_index env.values)) in
-      let q = length_run (line_step hash env l) lines in
-      omega arith
-
   pub length_after : (lines : List Line) → length (after lines).values ≡ fields + length lines
-  length_after lines = length_run (flat_entering packet start) lines ∙ ap (λ (n : ℕ). n + length lines) fits
+  length_after lines = length_run hash (flat_entering packet start) lines ∙ ap (λ (n : ℕ). n + length lines) fits
 
   -- a statement that is no flank leaves the state
   plain_arrays : (l : Line) (arrays : List (List ℕ)) (val : ℕ → ℕ) → is_flank l ≡ false → line_arrays l arrays val ≡ arrays

@@ -1,12 +1,11 @@
 -- What holds of the statement list.
-use Rattle.std.proofs.Common.{◌≡◌, ℕ, ◌+◌, ◌<◌, ◌≤◌, true, Bool, false, List, [], ◌∷◌, ◌++◌, length, map, refl, sym, ap, ◌∙◌, subst, arith}
+use Rattle.std.proofs.Common.{◌≡◌, ℕ, ◌+◌, ◌≤◌, true, Bool, false, List, [], length, map, refl, sym, ap, ◌∙◌, subst, arith}
 use Rattle.std.proofs.lemmas.List.{length-map, length-replicate}
 use Rattle.dom_ast.specs.Named.{NamedForm, are_named, are_outputs, makes_of}
-use Rattle.dom_ast.specs.Resolved.{PartForm, parts_of}
+use Rattle.dom_ast.specs.Resolved.{PartForm}
 use Rattle.dom_flat.specs.declared.line.Operand.{Operand}
 use Rattle.dom_flat.specs.declared.line.Line.{Line}
-use Rattle.dom_flat.specs.Kept.{are_after, are_below, are_flanked, are_known, entered, lines_within, values_of}
-use Rattle.dom_flat.specs.Lines.{makes}
+use Rattle.dom_flat.specs.Kept.{are_after, are_below, are_flanked, are_known, entered, have_small_moduli, lines_within, values_of}
 use Rattle.dom_flat.specs.Order.{AreEarlier}
 use Rattle.dom_flat.proofs.Facts.{all_known_below, are_earlier}
 use Rattle.three_address.specs.Flattening.{AllFlattened}
@@ -15,7 +14,7 @@ use Rattle.three_address.specs.Needs.{count, kept, line_renumbered, needed, new_
 use Rattle.three_address.specs.Statements.{all_of, all_statements, draft, needed_only, numbered, statements, with_items}
 use Rattle.three_address.proofs.Flanks.{Whole, outputs_count, whole}
 use Rattle.three_address.proofs.Grown.{length_values}
-use Rattle.three_address.proofs.Kept.{Left, held_start, kept_within, left_ordered}
+use Rattle.three_address.proofs.Kept.{Left, held_start, kept_moduli, kept_within, left_ordered}
 use Rattle.three_address.proofs.KeptFlanks.{kept_flanks}
 use Rattle.three_address.proofs.Numbers.{count_kept, earlier_below, kept_same, length_needed, length_numbers, number_same, operands_same}
 
@@ -118,6 +117,9 @@ module _ (fields arrays : ℕ) (items : List NamedForm) (outputs : List PartForm
   pub statements_ranges : lines_within arrays (statements fields items outputs).lines ≡ true
   statements_ranges = kept_within arrays (new_number fields marks) marks (all_statements fields items outputs).lines whole_all.ranges
 
+  pub statements_moduli : have_small_moduli (statements fields items outputs).lines ≡ true
+  statements_moduli = kept_moduli (new_number fields marks) marks (all_statements fields items outputs).lines whole_all.moduli
+
   pub statements_flanks : are_flanked [] [] (statements fields items outputs).lines ≡ true
   statements_flanks = kept_flanks fields (all_statements fields items outputs).lines (all_statements fields items outputs).operands marks whole_all.flanks
 
@@ -155,6 +157,9 @@ module _ (lines : List Line) (operands : List Operand) (fields arrays : ℕ) (it
 
   pub list_ranges : lines_within arrays lines ≡ true
   list_ranges = subst (λ (ls : List Line). lines_within arrays ls ≡ true) (sym list_lines) (statements_ranges fields arrays items outputs l.named l.outs)
+
+  pub list_moduli : have_small_moduli lines ≡ true
+  list_moduli = subst (λ (ls : List Line). have_small_moduli ls ≡ true) (sym list_lines) (statements_moduli fields arrays items outputs l.named l.outs)
 
   pub list_flanks : are_flanked [] [] lines ≡ true
   list_flanks = subst (λ (ls : List Line). are_flanked [] [] ls ≡ true) (sym list_lines) (statements_flanks fields arrays items outputs l.named l.outs)

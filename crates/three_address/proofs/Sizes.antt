@@ -1,5 +1,5 @@
 -- How many statements there are.
-use Rattle.std.proofs.Common.{◌≡◌, ℕ, ◌+◌, List, [], ◌∷◌, map, sum, refl, sym, ap, ◌∙◌, arith}
+use Rattle.std.proofs.Common.{◌≡◌, ◌+◌, List, [], ◌∷◌, map, sum, refl, sym, ap, ◌∙◌}
 use Rattle.std.proofs.lemmas.List.Sums.{sum_by-cons}
 use Rattle.dom_ast.specs.Named.{NamedForm, item_nodes}
 use Rattle.dom_ast.specs.PartSize.{part_nodes, parts_nodes}

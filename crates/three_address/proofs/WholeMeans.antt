@@ -1,7 +1,7 @@
 -- The statement list means what the list with one name for each value means.
-use Rattle.std.proofs.Common.{◌≡◌, ℕ, true, List, [], length, ap, ◌∙◌}
+use Rattle.std.proofs.Common.{◌≡◌, ℕ, List, length, ap, ◌∙◌}
 use Rattle.dom_words.specs.State.{Hash, IsSmallHash}
-use Rattle.dom_ast.specs.Named.{NamedForm, are_named, are_outputs, makes_of, named_outcome}
+use Rattle.dom_ast.specs.Named.{NamedForm, named_outcome}
 use Rattle.dom_ast.specs.Resolved.{PartForm}
 use Rattle.dom_flat.specs.declared.line.Operand.{Operand}
 use Rattle.dom_flat.specs.declared.line.Line.{Line}

@@ -1,7 +1,7 @@
 -- The statements that are needed, and their new numbers.
-use Rattle.std.specs.Prelude.{ℕ, suc, ◌+◌, ◌-◌, ◌||◌, nat_lt, Bool, true, false, List, [], ◌∷◌, map, take, if◌then◌else◌}
+use Rattle.std.specs.Prelude.{ℕ, suc, ◌+◌, ◌-◌, ◌||◌, nat_lt, Bool, true, false, List, [], ◌∷◌, take, if◌then◌else◌}
 use Rattle.std.specs.List.{list_any}
-use Rattle.dom_flat.specs.Lines.{operands_of, stores_to, uses}
+use Rattle.dom_flat.specs.Lines.{operands_of, stores_to, uses, with_operands}
 use Rattle.dom_flat.specs.declared.line.Operand.{Operand}
 use Rattle.dom_flat.specs.declared.line.Operand.TheVariants.{Const, Value}
 use Rattle.dom_flat.specs.declared.line.Line.{Line}
@@ -53,10 +53,6 @@ abbrev pub renumbered : (ℕ → ℕ) → Operand → Operand
 renumbered number (Const w) = Const w
 renumbered number (Value v) = Value (number v)
 
+-- a statement with the new numbers of its operands
 abbrev pub line_renumbered : (ℕ → ℕ) → Line → Line
-line_renumbered number (line.Fetch a i) = line.Fetch a (renumbered number i)
-line_renumbered number (line.Store a i v) = line.Store a (renumbered number i) (renumbered number v)
-line_renumbered number (line.Un o a) = line.Un o (renumbered number a)
-line_renumbered number (line.Bin o a b) = line.Bin o (renumbered number a) (renumbered number b)
-line_renumbered number (line.Cond c a b) = line.Cond (renumbered number c) (renumbered number a) (renumbered number b)
-line_renumbered number (line.Hash unit modulus args) = line.Hash unit modulus (map (renumbered number) args)
+line_renumbered number l = with_operands (renumbered number) l

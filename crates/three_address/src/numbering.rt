@@ -1,7 +1,7 @@
 //! New numbers for the statements that are kept.
 
 ghost use Rattle.std.specs.Prelude.{◌≡◌, ◌+◌, ◌<◌, ◌^◌, true, IfOk, length, map};
-ghost use Rattle.dom_flat.specs.Kept.{are_below, is_below};
+ghost use Rattle.dom_flat.specs.Kept.{are_below, has_word, have_words, is_below, lines_have_words};
 ghost use Rattle.dom_flat.specs.Lines.{operands_of};
 ghost use Rattle.three_address.specs.Marking.{lines_below, number_in, numbers_from};
 ghost use Rattle.three_address.specs.Needs.{kept, line_renumbered, renumbered as operand_renumbered};
@@ -32,13 +32,13 @@ pub(crate) fn numbers(alloc: Global, fields: u32, marks: &[bool]) -> Result<Vec<
 /// An operand with its new number.
 fn renumbered(operand: Operand, fields: u32, numbers: &[u32]) -> Operand
     requires { is_below (fields + length numbers.now) operand ≡ true }
-    ensures { result ≡ operand_renumbered (number_in fields numbers.now) operand }
+    ensures same { result ≡ operand_renumbered (number_in fields numbers.now) operand }
+    ensures word { has_word result ≡ true }
 {
     match operand {
-        Operand::Value(value) if value >= fields => {
-            Operand::Value(numbers[(value - fields) as usize])
-        }
-        _ => operand,
+        Operand::Const(word) => Operand::Const(word),
+        Operand::Value(value) if value < fields => Operand::Value(value),
+        Operand::Value(value) => Operand::Value(numbers[(value - fields) as usize]),
     }
 }
 
@@ -50,7 +50,8 @@ pub(crate) fn all_renumbered(
     numbers: &[u32],
 ) -> Result<Operands, Memory>
     requires { are_below (fields + length numbers.now) operands.now ≡ true }
-    ensures { IfOk result (λ all. all ≡ map (operand_renumbered (number_in fields numbers.now)) operands.now) }
+    ensures same { IfOk result (λ all. all ≡ map (operand_renumbered (number_in fields numbers.now)) operands.now) }
+    ensures words { IfOk result (λ all. have_words all ≡ true) }
 {
     let mut all = Seq::new(alloc);
     for operand in operands {
@@ -67,7 +68,8 @@ fn line_with_numbers(
     numbers: &[u32],
 ) -> Result<Line, Memory>
     requires { are_below (fields + length numbers.now) (operands_of line.now) ≡ true }
-    ensures { IfOk result (λ l. l ≡ line_renumbered (number_in fields numbers.now) line.now) }
+    ensures same { IfOk result (λ l. l ≡ line_renumbered (number_in fields numbers.now) line.now) }
+    ensures words { IfOk result (λ l. have_words (operands_of l) ≡ true) }
 {
     match line {
         Line::Fetch { array, index } => Ok(Line::Fetch {
@@ -119,7 +121,8 @@ pub(crate) fn kept_lines(
 ) -> Result<LineList, Memory>
     requires marks { length marks.now ≡ length lines.now }
     requires operands { lines_below (fields + length numbers.now) lines.now ≡ true }
-    ensures { IfOk result (λ all. all ≡ map (line_renumbered (number_in fields numbers.now)) (kept marks.now lines.now)) }
+    ensures same { IfOk result (λ all. all ≡ map (line_renumbered (number_in fields numbers.now)) (kept marks.now lines.now)) }
+    ensures words { IfOk result (λ all. lines_have_words all ≡ true) }
 {
     let mut all = Seq::new(alloc);
     for (k, line) in lines.iter().enumerate() {
@@ -144,6 +147,8 @@ pub(crate) fn numbered(
     requires outputs { are_below (fields + length lines.now) outputs.now ≡ true }
     ensures lines { IfOk result (λ r. r.0 ≡ (numbered_form fields marks.now (all_of lines.now outputs.now)).lines) }
     ensures outputs { IfOk result (λ r. r.1 ≡ (numbered_form fields marks.now (all_of lines.now outputs.now)).operands) }
+    ensures words { IfOk result (λ r. lines_have_words r.0 ≡ true) }
+    ensures output_words { IfOk result (λ r. have_words r.1 ≡ true) }
 {
     let numbers = numbers(alloc, fields, marks)?;
     let kept = kept_lines(alloc, lines, marks, fields, numbers.as_slice())?;

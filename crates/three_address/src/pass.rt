@@ -1,8 +1,8 @@
-ghost use Rattle.std.specs.Prelude.{◌≡◌, ℕ, ◌+◌, ◌<◌, ◌≤◌, ◌^◌, [], IfErr, IfOk, List, length, map, true};
-ghost use Rattle.dom_words.specs.State.{Hash, IsSmallHash};
+ghost use Rattle.std.specs.Prelude.{◌≡◌, ◌+◌, ◌<◌, ◌≤◌, ◌^◌, [], IfErr, IfOk, length, map, true};
+ghost use Rattle.dom_words.specs.State.{AgreeUnder, IsSmallHash};
 ghost use Rattle.dom_ast.specs.Named.{are_named, are_outputs, makes_of, named_form, named_nodes, named_outcome};
 ghost use Rattle.dom_ast.specs.Resolved.{form};
-ghost use Rattle.dom_flat.specs.Kept.{are_after, are_below, entered, lines_within};
+ghost use Rattle.dom_flat.specs.Kept.{are_after, are_below, entered, have_words, lines_have_words, lines_within};
 ghost use Rattle.dom_flat.specs.Meaning.{flat_outcome};
 ghost use Rattle.three_address.specs.Statements.{IsRefused, all_of, needed_only, statements};
 
@@ -29,6 +29,8 @@ fn keep_needed(
     ensures lines { IfOk result (λ r. r.0 ≡ (needed_only fields (all_of lines.now outputs.now)).lines) }
     ensures outputs { IfOk result (λ r. r.1 ≡ (needed_only fields (all_of lines.now outputs.now)).operands) }
     ensures few { IfOk result (λ r. length r.0 ≤ 512) }
+    ensures words { IfOk result (λ r. lines_have_words r.0 ≡ true) }
+    ensures output_words { IfOk result (λ r. have_words r.1 ≡ true) }
     ensures refused { IfErr result (λ fault. IsRefused fault (length (needed_only fields (all_of lines.now outputs.now)).lines)) }
 {
     let Ok(marks) = needed(alloc, fields, arrays, lines, outputs) else {
@@ -59,6 +61,8 @@ fn needed_statements(
     ensures lines { IfOk result (λ r. r.0 ≡ (statements fields (map named_form items.now) (map form outputs.now)).lines) }
     ensures outputs { IfOk result (λ r. r.1 ≡ (statements fields (map named_form items.now) (map form outputs.now)).operands) }
     ensures few { IfOk result (λ r. length r.0 ≤ 512) }
+    ensures words { IfOk result (λ r. lines_have_words r.0 ≡ true) }
+    ensures output_words { IfOk result (λ r. have_words r.1 ≡ true) }
     ensures refused { IfErr result (λ fault. IsRefused fault (length (statements fields (map named_form items.now) (map form outputs.now)).lines)) }
 {
     let Ok((lines, operands)) = all_statements(alloc, items, outputs, fields) else {
@@ -79,7 +83,7 @@ pub fn flatten(alloc: Global, steps: Named) -> Result<Flat, FlatFault>
     ensures fields { IfOk result (λ f. f.fields ≡ steps.fields) }
     ensures arrays { IfOk result (λ f. f.arrays ≡ steps.arrays) }
     ensures few { IfOk result (λ f. length f.lines ≤ 512) }
-    ensures means { IfOk result (λ f. (hash : Hash) (packet : List ℕ) (state : List (List ℕ)) → IsSmallHash hash → length packet ≡ length steps.fields → flat_outcome hash f.lines f.outputs packet state ≡ named_outcome hash (map named_form steps.items) (map form steps.outputs) packet state) }
+    ensures means { IfOk result (λ f. AgreeUnder (λ hash packet state. IsSmallHash hash × (length packet ≡ length steps.fields)) (λ hash packet state. flat_outcome hash f.lines f.outputs packet state) (λ hash packet state. named_outcome hash (map named_form steps.items) (map form steps.outputs) packet state)) }
     ensures refused { IfErr result (λ fault. IsRefused fault (length (statements (length steps.fields) (map named_form steps.items) (map form steps.outputs)).lines)) }
 {
     let Named {

@@ -9,15 +9,15 @@ steps_of-requires c = names_fit _ _ (ap bodies_form c.bodies.ensures) c.requires
 
 pub invariant_of-result-clause-lengths : goal.invariant_of-result-clause-lengths
 invariant_of-result-clause-lengths c =
-    subst (λ arrays. are_lengths arrays ≡ true) (sym (c.in_ok-arrays.ensures ∙ c.as_slice.ensures ∙ c.arrays.ensures)) c.args.program.now.lengths
+    subst (λ arrays. are_lengths arrays ≡ true) (sym (c.in_ok-arrays.ensures.same ∙ c.as_slice.ensures ∙ c.arrays.ensures)) c.args.program.now.lengths
 
 pub invariant_of-result-clause-few_words : goal.invariant_of-result-clause-few_words
 invariant_of-result-clause-few_words c =
-    subst (λ arrays. state_words arrays ≤ 1048576) (sym (c.in_ok-arrays.ensures ∙ c.as_slice.ensures ∙ c.arrays.ensures)) c.args.program.now.few_words
+    subst (λ arrays. state_words arrays ≤ 1048576) (sym (c.in_ok-arrays.ensures.same ∙ c.as_slice.ensures ∙ c.arrays.ensures)) c.args.program.now.few_words
 
 pub invariant_of-result-clause-ranges : goal.invariant_of-result-clause-ranges
 invariant_of-result-clause-ranges c =
-    steps_within _ _ _ _ _ _ _ _ (record { list = c.in_ok-steps.ensures.list; same = ap bodies_form c.bodies.ensures }) (c.in_ok-fields.ensures ∙ c.fields.ensures) (c.in_ok-arrays.ensures ∙ c.as_slice.ensures ∙ c.arrays.ensures) c.in_ok-steps.ensures.fresh c.args.program.now.ranges
+    steps_within _ _ _ _ _ _ _ _ (record { list = c.in_ok-steps.ensures.list; same = ap bodies_form c.bodies.ensures }) (c.in_ok-fields.ensures ∙ c.fields.ensures) (c.in_ok-arrays.ensures.same ∙ c.as_slice.ensures ∙ c.arrays.ensures) c.in_ok-steps.ensures.fresh c.args.program.now.ranges
 
 pub invariant_of-result-clause-one_index : goal.invariant_of-result-clause-one_index
 invariant_of-result-clause-one_index c =
@@ -29,7 +29,7 @@ invariant_of-result-clause-kept_indexes c =
 
 pub returns-clause-means : goal.returns-clause-means
 returns-clause-means c =
-    steps_mean _ _ _ _ _ (record { list = c.in_ok-steps.ensures.list; same = ap bodies_form c.bodies.ensures }) c.args.program.now.ranges
+    λ hash packet state any. steps_mean _ _ _ _ _ (record { list = c.in_ok-steps.ensures.list; same = ap bodies_form c.bodies.ensures }) c.args.program.now.ranges hash packet state
 
 pub returns-clause-few : goal.returns-clause-few
 returns-clause-few c =

@@ -31,6 +31,7 @@ invariant_of-result c =
       few_fields = s.few_fields;
       few_arrays = s.few_arrays;
       lengths = s.lengths;
+      first_words = s.first_words;
       few_words = s.few_words;
       ranges = whole_items fields arrays s.fresh xs s.flanks s.ranges (map named_form items) (map form outputs) these those;
       output_ranges = whole_outputs fields arrays s.fresh xs s.flanks s.ranges (map named_form items) (map form outputs) these those;

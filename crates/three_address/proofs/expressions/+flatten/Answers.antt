@@ -1,4 +1,4 @@
-use Rattle.std.proofs.Common.{◌≡◌, ◌+◌, ◌*◌, ◌≤◌, arith}
+use Rattle.std.proofs.Common.{arith}
 use Rattle.three_address.proofs.Chains.{op_step}
 use Rattle.three_address.proofs.expressions.+flatten.Goals as goal
 

@@ -1,4 +1,4 @@
-use Rattle.std.proofs.Common.{◌≡◌, ◌-◌, length, sym, ap, ◌∙◌, arith}
+use Rattle.std.proofs.Common.{◌-◌, length, ap, ◌∙◌, arith}
 use Rattle.three_address.proofs.Marks.{array_at, needs_swept, operands_at, table_length}
 use Rattle.three_address.proofs.needs.needed.Goals as goal
 

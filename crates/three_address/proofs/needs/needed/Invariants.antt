@@ -1,4 +1,4 @@
-use Rattle.std.proofs.Common.{◌≡◌, ◌≤◌, false, drop, length, ℕ}
+use Rattle.std.proofs.Common.{◌≡◌, ◌≤◌, false, drop, length}
 use Rattle.std.specs.Prelude.{replicate}
 use Rattle.three_address.specs.Marking.{all_marked, swept}
 use Rattle.three_address.proofs.needs.needed.Given as goal

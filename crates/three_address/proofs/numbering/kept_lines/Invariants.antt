@@ -1,8 +1,11 @@
-use Rattle.std.proofs.Common.{◌≡◌, ◌++◌, drop, map}
+use Rattle.std.proofs.Common.{◌≡◌, ◌++◌, drop, map, true}
+use Rattle.dom_flat.specs.Kept.{lines_have_words}
 use Rattle.three_address.specs.Marking.{number_in}
 use Rattle.three_address.specs.Needs.{kept, line_renumbered}
 use Rattle.three_address.proofs.numbering.kept_lines.Given as goal
 
 abbrev pub invariant-loop-k : goal.invariant-loop-k
-invariant-loop-k l =
-    l.all ++ map (line_renumbered (number_in l.fields l.numbers)) (kept (drop l.k l.marks) (drop l.k l.lines)) ≡ map (line_renumbered (number_in l.fields l.numbers)) (kept l.marks l.lines)
+invariant-loop-k l = record {
+  same : l.all ++ map (line_renumbered (number_in l.fields l.numbers)) (kept (drop l.k l.marks) (drop l.k l.lines)) ≡ map (line_renumbered (number_in l.fields l.numbers)) (kept l.marks l.lines);
+  words : lines_have_words l.all ≡ true;
+}

@@ -14,8 +14,8 @@ all_renumbered-requires c =
 
 pub returns-clause-lines : goal.returns-clause-lines
 returns-clause-lines c =
-    c.in_ok-kept.ensures ∙ lines_numbered c.args.fields c.args.marks.now _ c.args.lines.now (c.as_slice.ensures.value ∙ c.in_ok-numbers.ensures) c.requires.marks c.requires.lines
+    c.in_ok-kept.ensures.same ∙ lines_numbered c.args.fields c.args.marks.now _ c.args.lines.now (c.as_slice.ensures.value ∙ c.in_ok-numbers.ensures) c.requires.marks c.requires.lines
 
 pub returns-clause-outputs : goal.returns-clause-outputs
 returns-clause-outputs c =
-    c.in_ok-outputs.ensures ∙ outputs_numbered c.args.fields c.args.marks.now _ c.args.lines.now c.args.outputs.now (c.as_slice-2.ensures.value ∙ c.in_ok-numbers.ensures) c.requires.marks c.requires.outputs
+    c.in_ok-outputs.ensures.same ∙ outputs_numbered c.args.fields c.args.marks.now _ c.args.lines.now c.args.outputs.now (c.as_slice-2.ensures.value ∙ c.in_ok-numbers.ensures) c.requires.marks c.requires.outputs

@@ -1,4 +1,4 @@
-use Rattle.std.proofs.Common.{◌≡◌, sym, ap, ◌∙◌, length, arith}
+use Rattle.std.proofs.Common.{sym, ap, ◌∙◌, arith}
 use Rattle.three_address.specs.Needs.{count}
 use Rattle.three_address.proofs.Passed.{marks_length, needed_count, numbered_few, order_below}
 use Rattle.three_address.proofs.pass.keep_needed.Goals as goal

@@ -1,4 +1,4 @@
-use Rattle.std.proofs.Common.{◌≡◌, map, length, sym, ap, ◌∙◌, arith}
+use Rattle.std.proofs.Common.{map, ◌∙◌}
 use Rattle.dom_ast.specs.Named.{named_form}
 use Rattle.dom_ast.specs.Resolved.{form}
 use Rattle.three_address.proofs.Passed.{made_order, made_outputs, made_ranges}

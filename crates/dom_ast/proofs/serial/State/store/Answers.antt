@@ -1,4 +1,5 @@
-use Rattle.dom_ast.proofs.Serials.{filled_alike, stored_sizes}
+use Rattle.dom_words.proofs.Stored.{stored_sizes}
+use Rattle.dom_ast.proofs.Serials.{filled_alike}
 use Rattle.dom_ast.proofs.serial.State.store.Goals as goal
 
 pub invariant_of-self : goal.invariant_of-self
