@@ -1,4 +1,5 @@
 pub mod Arms
+pub mod DeclaredNames
 pub mod Declares
 pub mod FirstFaults
 pub mod HeadSteps

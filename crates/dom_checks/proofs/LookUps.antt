@@ -1,10 +1,10 @@
 -- What a name means where one more name is declared.
-use Rattle.std.proofs.Common.{◌≡◌, ℕ, zero, suc, ◌+◌, Bool, true, false, not, List, [], ◌∷◌, ◌++◌, length, length-append, if◌then◌else◌, refl, sym, ap, ◌∙◌, cond, nat_lt, Some, None, option_map, position, slice_get, rules, arith}
+use Rattle.std.proofs.Common.{◌≡◌, ℕ, zero, suc, ◌+◌, Bool, true, false, not, ◌||◌, is_some, List, [], ◌∷◌, ◌++◌, length, length-append, if◌then◌else◌, refl, sym, ap, ◌∙◌, cond, nat_lt, Some, None, option_map, position, slice_get, rules, arith}
 use Prim.Native.Nat.compare
 use Rattle.std.specs.Prelude.{Option}
-use Rattle.std.specs.List.{position_or_len}
+use Rattle.std.specs.List.{list_any, position_or_len}
 use Rattle.std.proofs.lemmas.Grind.{common_steps}
-use Rattle.dom_words.specs.Names.{is_same}
+use Rattle.dom_words.specs.Names.{has_name, is_same}
 use Rattle.dom_checks.specs.declared.meant.Meant.{Meant}
 use Rattle.dom_checks.specs.declared.meant.Meant.TheVariants as meaning
 use Rattle.dom_checks.specs.Scope.{Scope, is_param, meaning_at, meant, with_name}
@@ -94,3 +94,25 @@ newly_meant scope name m text paired e same =
 pub never_meant : (scope : Scope) (name : List ℕ) (m : Meant) (text : List ℕ) → length scope.meanings ≡ length scope.names → meant scope text ≡ None → is_same text name ≡ false → meant (with_name scope name m) text ≡ None
 never_meant scope name m text paired e other =
     meant_more scope name m text paired ∙ ap (λ o. or_next o (is_same text name) m) e ∙ ap (λ b. or_next None b m) other
+
+-- A name that is not declared is not among the names.
+
+some_next : (b : Bool) (m : Meant) (o : Option Meant) (c : Bool) → is_some o ≡ c → is_some (cond b (Some m) o) ≡ (b || c)
+some_next true m o c e = refl
+some_next false m o c e = e
+
+some_found : (p : List ℕ → Bool) (ns : List (List ℕ)) (ms : List Meant) → length ms ≡ length ns → is_some (found p ns ms) ≡ list_any p ns
+some_found p [] ms paired = refl
+some_found p (n ∷ ns) [] paired = absurd (omega arith)
+some_found p (n ∷ ns) (m ∷ ms) paired = some_next (p n) m (found p ns ms) (list_any p ns) (some_found p ns ms (omega arith))
+
+some_global : (b : Bool) (o : Option Meant) → is_some (if b then Some meaning.Parameter else o) ≡ false → is_some o ≡ false
+some_global true o e = absurd (cc)
+some_global false o e = e
+
+pub not_declared : (scope : Scope) (name : List ℕ) → length scope.meanings ≡ length scope.names → is_some (meant scope name) ≡ false → has_name scope.names name ≡ false
+not_declared scope name paired e =
+    let p : List ℕ → Bool = is_same name in
+    sym (some_found p scope.names scope.meanings paired)
+    ∙ ap (λ (o : Option Meant). is_some o) (sym (found_is p scope.names scope.meanings paired))
+    ∙ some_global (is_param scope.param name) (meaning_at scope.meanings (position p scope.names)) e

@@ -2,7 +2,7 @@
 use Rattle.std.proofs.Common.{◌≡◌, ℕ, List, length, ap, refl, subst, sym, ◌∙◌, Result, Ok, Err, IfErr}
 use Rattle.std.specs.Result.{IsErrAnd}
 use Rattle.dom_words.specs.declared.array.Array.{Array}
-use Rattle.dom_words.specs.State.{Hash, IsSmallHash}
+use Rattle.dom_words.specs.State.{AgreeUnder, IsSmallHash}
 use Rattle.dom_ast.specs.Named.{NamedForm, named_outcome}
 use Rattle.dom_ast.specs.Resolved.{CheckedForm, PartForm}
 use Rattle.dom_flat.specs.declared.flat.Flat.{Flat}
@@ -22,7 +22,7 @@ module _ (program : CheckedForm) (fields : List (List ℕ)) (items : List NamedF
   pub is_listed : (arrays : List Array) (flat : Flat) → arrays ≡ program.arrays → flat.fields ≡ fields → flat.arrays ≡ arrays
       → flat.lines ≡ (statements (length fields) items outputs).lines → flat.outputs ≡ (statements (length fields) items outputs).operands
       → MeansProgram program (λ hash packet state. named_outcome hash items outputs packet state)
-      → ((hash : Hash) (packet : List ℕ) (state : List (List ℕ)) → IsSmallHash hash → length packet ≡ length fields → flat_outcome hash flat.lines flat.outputs packet state ≡ named_outcome hash items outputs packet state)
+      → AgreeUnder (λ hash packet state. IsSmallHash hash × (length packet ≡ length fields)) (λ hash packet state. flat_outcome hash flat.lines flat.outputs packet state) (λ hash packet state. named_outcome hash items outputs packet state)
       → IsListed program flat
   is_listed arrays flat same_arrays its_fields its_arrays its_lines its_outputs named_means means = record {
     fields = its_fields ∙ same_fields;
@@ -30,7 +30,7 @@ module _ (program : CheckedForm) (fields : List (List ℕ)) (items : List NamedF
     lines = its_lines ∙ ap (λ all. all.lines) same_list;
     outputs = its_outputs ∙ ap (λ all. all.operands) same_list;
     means = λ hash packet state small words declared.
-        means hash packet state small (words ∙ sym (ap length same_fields)) ∙ named_means hash packet state small words declared;
+        means hash packet state (small, words ∙ sym (ap length same_fields)) ∙ named_means hash packet state small words declared;
   }
 
   pub too_long : (f : FlatFault) → IsRefused f (length (statements (length fields) items outputs).lines) → IsTooLong program (of_flat f)

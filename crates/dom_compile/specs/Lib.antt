@@ -2,3 +2,5 @@
 pub mod Compiled
 pub mod Layers
 pub mod Programs
+pub mod Verdict
+pub mod WellNamed

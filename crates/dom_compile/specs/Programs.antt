@@ -35,7 +35,7 @@ pub record HasLexFault (text : List ℕ) (fault : LexFault) : Type 0 where
   pub small : length text ≤ most_program
   pub first : IsFault text fault
 
--- the first fault of the tokens, which spell no program
+-- the first fault of the tokens, which spell no program within the limit on open constructs
 pub record HasParseFault (text : List ℕ) (fault : ParseFault) : Type 0 where
   pub tokens : List Token
   pub has_tokens : HasTokens text tokens

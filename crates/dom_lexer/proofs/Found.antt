@@ -6,7 +6,8 @@ use Rattle.std.specs.List.{prefix_len, list_all}
 use Rattle.std.specs.Char.{is_ascii_digit, is_ascii_hexdigit}
 use Rattle.std.proofs.lemmas.List.Folds.{length-prefix_len}
 use Rattle.std.proofs.lemmas.Bool.{and_parts, and_from, leb-true, leb-false}
-use Rattle.dom_lexer.specs.Bytes.{is_space, is_word_start, is_word_byte, is_number, is_decimal, is_hex, is_x, number_value}
+use Rattle.dom_lexer.specs.Bytes.{is_space, is_number, is_decimal, is_hex, is_x, number_value}
+use Rattle.dom_words.specs.Spelling.{is_word_start, is_word_byte}
 use Rattle.dom_lexer.specs.Text.{space, line, block, spelling, IsLongest, IsWord, IsNumber, IsSymbol, starts, first_is, close_mark, open_mark, line_mark, is_no_feed, BeginsNumber, greatest_number}
 use Rattle.dom_lexer.specs.Next.{class_by, class_of, hex_starts, hex_by, hex_len, number_len, number_form, form_by, up_to, close_len, block_next, symbol_of, symbol_next, mark_by, mark_next, next_by, next_of}
 use Rattle.dom_lexer.specs.Reads.{IsForm, IsNext}

@@ -7,3 +7,4 @@ pub mod Steps
 pub mod One
 pub mod Exact
 pub mod Every
+pub mod Words

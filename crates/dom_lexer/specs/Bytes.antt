@@ -1,24 +1,11 @@
--- Kinds of bytes, and the forms of words and numbers.
+-- White space, and the forms of numbers.
 use Rattle.std.specs.Prelude.{ℕ, ◌+◌, ◌-◌, ◌*◌, Bool, true, false, ◌&&◌, ◌||◌, ◌==◌, nat_le, if◌then◌else◌, List, [], ◌∷◌, drop, fold}
-use Rattle.std.specs.Char.{is_ascii_digit, is_ascii_hexdigit, is_ascii_alphabetic, is_ascii_alphanumeric}
+use Rattle.std.specs.Char.{is_ascii_digit, is_ascii_hexdigit}
 use Rattle.std.specs.List.{list_all}
 
 -- white space: the bytes 9 to 13 and 32
 abbrev pub is_space : ℕ → Bool
 is_space b = b == 32 || (nat_le 9 b && nat_le b 13)
-
--- a letter or `_` (the byte 95)
-abbrev pub is_word_start : ℕ → Bool
-is_word_start b = is_ascii_alphabetic b || b == 95
-
--- a letter, a digit or `_`
-abbrev pub is_word_byte : ℕ → Bool
-is_word_byte b = is_ascii_alphanumeric b || b == 95
-
--- a letter or `_`, and then letters, digits and `_`
-abbrev pub is_word : List ℕ → Bool
-is_word [] = false
-is_word (b ∷ bs) = is_word_start b && list_all is_word_byte bs
 
 abbrev pub is_empty : List ℕ → Bool
 is_empty [] = true

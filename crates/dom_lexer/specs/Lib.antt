@@ -1,5 +1,6 @@
 pub mod Bytes
 pub mod Text
+pub mod Words
 pub mod Answer
 pub mod Next
 pub mod Reads

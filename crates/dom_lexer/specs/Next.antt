@@ -2,7 +2,8 @@
 use Rattle.std.specs.Prelude.{ℕ, ◌+◌, Bool, true, false, ◌&&◌, ◌==◌, nat_le, List, [], ◌∷◌, Option, Some, None, drop, take, if◌then◌else◌}
 use Rattle.std.specs.List.{prefix_len, find}
 use Rattle.std.specs.Char.{is_ascii_digit, is_ascii_hexdigit}
-use Rattle.dom_lexer.specs.Bytes.{is_space, is_word_start, is_word_byte, number_value, is_x}
+use Rattle.dom_lexer.specs.Bytes.{is_space, number_value, is_x}
+use Rattle.dom_words.specs.Spelling.{is_word_start, is_word_byte}
 use Rattle.dom_lexer.specs.Text.{spelling, first_is, is_no_feed, starts, line_mark, open_mark, close_mark, greatest_number}
 use Rattle.dom_lexer.specs.declared.token.Sym.{Sym}
 use Rattle.dom_lexer.specs.declared.token.Sym.TheVariants.{Shl, Shr, Le, Ge, EqEq, NotEq, AndAnd, OrOr, Plus, Minus, Star, Slash, Percent, Less, Greater, Assign, Bang, Tilde, Amp, Bar, Caret, Question, Colon, Semi, Comma, Dot, OpenParen, CloseParen, OpenBracket, CloseBracket, OpenBrace, CloseBrace, Hash}

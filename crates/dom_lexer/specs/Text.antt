@@ -2,7 +2,8 @@
 use Rattle.std.specs.Prelude.{◌≡◌, ℕ, ◌+◌, ◌-◌, ◌<◌, ◌≤◌, ◌⊎◌, Bool, true, false, ◌&&◌, ◌||◌, not, ◌==◌, List, [], ◌∷◌, ◌++◌, length, drop, codes}
 use Rattle.std.specs.List.{list_all}
 use Rattle.std.specs.Char.{is_ascii_digit}
-use Rattle.dom_lexer.specs.Bytes.{is_space, is_word, is_number, is_word_byte, number_value, is_word_start}
+use Rattle.dom_lexer.specs.Bytes.{is_space, is_number, number_value}
+use Rattle.dom_words.specs.Spelling.{is_word, is_word_byte, is_word_start}
 use Rattle.dom_lexer.specs.declared.token.Sym.{Sym}
 use Rattle.dom_lexer.specs.declared.token.Sym.TheVariants.{Shl, Shr, Le, Ge, EqEq, NotEq, AndAnd, OrOr, Plus, Minus, Star, Slash, Percent, Less, Greater, Assign, Bang, Tilde, Amp, Bar, Caret, Question, Colon, Semi, Comma, Dot, OpenParen, CloseParen, OpenBracket, CloseBracket, OpenBrace, CloseBrace, Hash}
 use Rattle.dom_lexer.specs.declared.token.TokenKind.{TokenKind}

@@ -1,3 +1,4 @@
+pub mod DeclaredNames
 pub mod Derived
 pub mod Exprs
 pub mod Finished
@@ -12,6 +13,7 @@ pub mod OneProgram
 pub mod OneStruct
 pub mod Programs
 pub mod Sizes
+pub mod SomeAnswer
 pub mod Steps
 pub mod Stmts
 pub mod TooMany

@@ -1,6 +1,7 @@
 -- What tokens are to the grammar.
-use Rattle.std.specs.Prelude.{ℕ, ◌+◌, Bool, true, false, ◌||◌, List, [], ◌∷◌, map, drop, Option, Some, None, if◌then◌else◌, slice_get, nat_eq, codes}
-use Rattle.std.specs.Cmp.Lexicographic.{pointwise}
+use Rattle.std.specs.Prelude.{ℕ, ◌+◌, Bool, true, false, List, [], ◌∷◌, map, drop, Option, Some, None, if◌then◌else◌, slice_get, nat_eq, codes}
+use Rattle.dom_words.specs.Names.{has_name, is_same}
+use Rattle.dom_words.specs.Spelling.{forbidden_words}
 use Rattle.dom_words.specs.declared.operators.BinOp.{BinOp}
 use Rattle.dom_words.specs.declared.operators.BinOp.TheVariants as bin
 use Rattle.dom_words.specs.declared.operators.UnOp.{UnOp}
@@ -15,43 +16,25 @@ use Rattle.dom_parser.specs.declared.kinds.Fixed.TheVariants as fixed
 use Rattle.dom_parser.specs.declared.kinds.Kind.{Kind}
 use Rattle.dom_parser.specs.declared.kinds.Kind.TheVariants as kind
 
--- whether two words have the same bytes
-abbrev pub is_text : List ℕ → List ℕ → Bool
-is_text = pointwise nat_eq
+-- the language's own words
+abbrev pub own_kinds : List (List ℕ × Fixed)
+own_kinds =
+    (codes "struct", fixed.Struct) ∷ (codes "int", fixed.Int) ∷ (codes "void", fixed.Void)
+    ∷ (codes "if", fixed.If) ∷ (codes "else", fixed.Else) ∷ (codes "define", fixed.Define) ∷ []
 
--- the words of C that the language leaves out
-abbrev pub is_forbidden : List ℕ → Bool
-is_forbidden text =
-    is_text text (codes "while")
-    || is_text text (codes "for")
-    || is_text text (codes "do")
-    || is_text text (codes "switch")
-    || is_text text (codes "case")
-    || is_text text (codes "default")
-    || is_text text (codes "goto")
-    || is_text text (codes "break")
-    || is_text text (codes "continue")
-    || is_text text (codes "return")
-    || is_text text (codes "sizeof")
-    || is_text text (codes "char")
-    || is_text text (codes "short")
-    || is_text text (codes "long")
-    || is_text text (codes "unsigned")
-    || is_text text (codes "signed")
-    || is_text text (codes "float")
-    || is_text text (codes "double")
-    || is_text text (codes "enum")
-    || is_text text (codes "union")
-    || is_text text (codes "typedef")
-    || is_text text (codes "static")
-    || is_text text (codes "const")
-    || is_text text (codes "volatile")
-    || is_text text (codes "include")
+-- what a word is by such a table, if it is there
+abbrev pub found_in : List (List ℕ × Fixed) → List ℕ → Option Fixed
+found_in [] text = None
+found_in (entry ∷ table) text = if is_same text entry.0 then Some entry.1 else found_in table text
 
 -- an own word, a forbidden one, or a name
+abbrev pub kind_by : Option Fixed → Bool → Kind
+kind_by (Some own) forbidden = kind.Fixed own
+kind_by None true = kind.Forbidden
+kind_by None false = kind.Name
+
 abbrev pub word_kind : List ℕ → Kind
-word_kind text =
-    if is_text text (codes "struct") then kind.Fixed fixed.Struct else if is_text text (codes "int") then kind.Fixed fixed.Int else if is_text text (codes "void") then kind.Fixed fixed.Void else if is_text text (codes "if") then kind.Fixed fixed.If else if is_text text (codes "else") then kind.Fixed fixed.Else else if is_text text (codes "define") then kind.Fixed fixed.Define else if is_forbidden text then kind.Forbidden else kind.Name
+word_kind text = kind_by (found_in own_kinds text) (has_name forbidden_words text)
 
 abbrev pub symbol_kind : Sym → Kind
 symbol_kind sym.Shl = kind.Operator bin.Shl

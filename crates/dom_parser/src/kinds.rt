@@ -1,10 +1,10 @@
 ghost use Rattle.std.specs.Prelude.{◌≡◌, ◌<◌, IfErr, IfOk, IfSome, length};
 ghost use Rattle.dom_parser.specs.Following.{begin_of, begins_operand, declared_of, declares, goes_on, lead_of, leads, suffix_of};
-ghost use Rattle.dom_parser.specs.Tokens.{Where, is_forbidden as forbidden, is_fixed as fixed_is, is_name as name_is, is_there, number_of, offset_at, operator_of, rank_of, stands, symbol_kind as kind_of_symbol, text_at as text_there, token_kind, unary_of, word_kind as kind_of_word, is_minus as minus_is};
+ghost use Rattle.dom_parser.specs.Tokens.{Where, found_in, is_fixed as fixed_is, is_name as name_is, is_there, number_of, offset_at, operator_of, own_kinds, rank_of, stands, symbol_kind as kind_of_symbol, text_at as text_there, token_kind, unary_of, word_kind as kind_of_word, is_minus as minus_is};
 
 use crate::faults::Fault;
 use dom_lexer::{Sym, Token, TokenKind};
-use dom_words::{BinOp, Name, UnOp};
+use dom_words::{BinOp, Name, UnOp, is_forbidden};
 use std::alloc::Global;
 
 /// An own word of the language, or a symbol that is no operator.
@@ -69,54 +69,37 @@ fn kind_of(kind: &TokenKind) -> Kind
 fn word_kind(text: &[u8]) -> Kind
     ensures { result ≡ kind_of_word text.now }
 {
-    if text == b"struct".as_slice() {
-        Kind::Fixed(Fixed::Struct)
-    } else if text == b"int".as_slice() {
-        Kind::Fixed(Fixed::Int)
-    } else if text == b"void".as_slice() {
-        Kind::Fixed(Fixed::Void)
-    } else if text == b"if".as_slice() {
-        Kind::Fixed(Fixed::If)
-    } else if text == b"else".as_slice() {
-        Kind::Fixed(Fixed::Else)
-    } else if text == b"define".as_slice() {
-        Kind::Fixed(Fixed::Define)
-    } else if is_forbidden(text) {
-        Kind::Forbidden
-    } else {
-        Kind::Name
+    match own_word(text) {
+        Some(own) => Kind::Fixed(own),
+        None => {
+            if is_forbidden(text) {
+                Kind::Forbidden
+            } else {
+                Kind::Name
+            }
+        }
     }
 }
 
-/// Whether a word is one of C that the language leaves out.
-fn is_forbidden(text: &[u8]) -> bool
-    ensures { result ≡ forbidden text.now }
+/// What an own word of the language is.
+fn own_word(text: &[u8]) -> Option<Fixed>
+    ensures { result ≡ found_in own_kinds text.now }
 {
-    text == b"while".as_slice()
-        || text == b"for".as_slice()
-        || text == b"do".as_slice()
-        || text == b"switch".as_slice()
-        || text == b"case".as_slice()
-        || text == b"default".as_slice()
-        || text == b"goto".as_slice()
-        || text == b"break".as_slice()
-        || text == b"continue".as_slice()
-        || text == b"return".as_slice()
-        || text == b"sizeof".as_slice()
-        || text == b"char".as_slice()
-        || text == b"short".as_slice()
-        || text == b"long".as_slice()
-        || text == b"unsigned".as_slice()
-        || text == b"signed".as_slice()
-        || text == b"float".as_slice()
-        || text == b"double".as_slice()
-        || text == b"enum".as_slice()
-        || text == b"union".as_slice()
-        || text == b"typedef".as_slice()
-        || text == b"static".as_slice()
-        || text == b"const".as_slice()
-        || text == b"volatile".as_slice()
-        || text == b"include".as_slice()
+    if text == b"struct".as_slice() {
+        Some(Fixed::Struct)
+    } else if text == b"int".as_slice() {
+        Some(Fixed::Int)
+    } else if text == b"void".as_slice() {
+        Some(Fixed::Void)
+    } else if text == b"if".as_slice() {
+        Some(Fixed::If)
+    } else if text == b"else".as_slice() {
+        Some(Fixed::Else)
+    } else if text == b"define".as_slice() {
+        Some(Fixed::Define)
+    } else {
+        None
+    }
 }
 
 fn symbol_kind(sym: Sym) -> Kind

@@ -5,8 +5,9 @@ mod expressions;
 mod faults;
 mod heads;
 mod kinds;
+pub mod laws;
 mod parser;
 mod statements;
 
 pub use faults::ParseFault;
-pub use parser::{one_fault, one_program, parse};
+pub use parser::parse;

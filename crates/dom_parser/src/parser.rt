@@ -1,9 +1,8 @@
-ghost use Rattle.std.specs.Prelude.{◌≡◌, ℕ, ◌+◌, ◌<◌, ◌≤◌, ◌++◌, List, [], ◌∷◌, IfErr, IfOk, OnOk, length, map, true};
-ghost use Rattle.dom_ast.specs.Form.{ProgramForm, guard_form, program_form, transaction_form};
-ghost use Rattle.dom_lexer.specs.declared.token.Token.{Token};
+ghost use Rattle.std.specs.Prelude.{◌≡◌, ◌+◌, ◌<◌, ◌≤◌, ◌++◌, [], ◌∷◌, IfErr, IfOk, OnOk, length, map, true};
+ghost use Rattle.dom_ast.specs.Form.{guard_form, program_form, transaction_form};
 ghost use Rattle.dom_parser.specs.declared.kinds.Fixed.TheVariants as fixed;
 ghost use Rattle.dom_parser.specs.Tokens.{is_fixed as fixed_is, is_name as name_is, stands};
-ghost use Rattle.dom_parser.specs.Grammar.{IsSpelled, Spells};
+ghost use Rattle.dom_parser.specs.Grammar.{IsSpelled};
 ghost use Rattle.dom_ast.specs.CheckedForm.{has_one_struct};
 ghost use Rattle.dom_ast.specs.Size.{program_nested, program_nodes};
 ghost use Rattle.dom_parser.specs.Faults.{IsFirstFault, SpellsNone, located_at};
@@ -37,16 +36,6 @@ pub fn parse(alloc: Global, tokens: &Tokens) -> Result<Program, ParseFault>
         Err(fault) => Err(located(tokens, fault)),
     }
 }
-
-/// A list of tokens spells one program at most.
-pub fn one_program()
-    ensures { (p q : ProgramForm) (l : List Token) → Spells p l → Spells q l → p ≡ q }
-{}
-
-/// A list of tokens has one fault at most, want of memory aside.
-pub fn one_fault()
-    ensures { (l : List Token) (end : ℕ) (f g : ParseFault) → IsFirstFault l end f → IsFirstFault l end g → (f ≡ ParseFault.Memory → ⊥) → (g ≡ ParseFault.Memory → ⊥) → f ≡ g }
-{}
 
 /// The fault with its offset in the place of the token's number.
 fn located(tokens: &Tokens, fault: Fault) -> ParseFault
