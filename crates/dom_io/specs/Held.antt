@@ -5,11 +5,14 @@ use Rattle.std.specs.Prelude.{◌≡◌, Bool, false, List, [], ◌∷◌, ℕ, 
 abbrev pub appended : Option (List ℕ) → List ℕ → Option (List ℕ)
 appended held bytes = option_map (λ h. h ++ bytes) held
 
+-- some first ones of the bytes were put
+abbrev pub IsPart : Option (List ℕ) → Option (List ℕ) → List ℕ → Type 0
+IsPart before after bytes = (n : ℕ) × (n ≤ length bytes) × (after ≡ appended before (take n bytes))
+
 -- all of the bytes were put, or some first ones where that failed
 abbrev pub Puts : {E : Type 0} → Option (List ℕ) → Option (List ℕ) → List ℕ → Result (Unit {0}) E → Type 0
 Puts before after bytes result =
-    MatchResult result (λ _. after ≡ appended before bytes)
-    (λ _. (n : ℕ) × (n ≤ length bytes) × (after ≡ appended before (take n bytes)))
+    MatchResult result (λ _. after ≡ appended before bytes) (λ _. IsPart before after bytes)
 
 -- how many bytes the put of a number is to take before it fails, by the first pair of that number
 abbrev pub planned_bytes : List (ℕ × ℕ) → ℕ → Option ℕ

@@ -1,4 +1,5 @@
 ghost use Rattle.std.specs.Prelude.{◌≡◌, ◌≤◌, List, ℕ, take, vec_len, if◌then◌else◌, IfOk, IfErr, IfSome};
+ghost use Rattle.std.specs.Io.KnownBytes.{Consumes};
 ghost use Rattle.dom_io.specs.Causes.{next_number};
 ghost use Rattle.dom_io.specs.Files.{is_failure, untold};
 ghost use Rattle.dom_io.specs.Reads.{ReadCause};
@@ -53,7 +54,7 @@ impl<'a, R: Files> Shelf for DiskShelf<'a, R> {
     }
 }
 
-// The first bytes of a file, read piece by piece until there are enough of them or no more come.
+// The first bytes of a file.
 fn read_file<R: Files>(
     rt: &R,
     alloc: Global,
@@ -63,11 +64,25 @@ fn read_file<R: Files>(
     ensures { IfOk result (λ v. vec_len v ≤ most) }
 {
     let mut file = fs::open(rt, name).map_err(|_| ShelfFault::Failed)?;
+    read_first(&mut file, alloc, most)
+}
+
+/// The first `most` bytes of a reader, or all that it has left where they are fewer, read piece by piece. The reader gives
+/// no byte more than is answered. `Failed` where a read of the reader fails.
+pub fn read_first<R: Read>(
+    reader: &mut R,
+    alloc: Global,
+    most: usize,
+) -> Result<Vec<u8>, ShelfFault>
+    ensures few { IfOk result (λ v. vec_len v ≤ most) }
+    ensures bytes { IfOk result (λ v. IfSome (R.remaining reader.old) (λ xs. v.items ≡ take most xs)) }
+    ensures no_more { IfOk result (λ v. Consumes (R.remaining reader.old) (R.remaining reader.new) v.items) }
+{
     let mut bytes = Vec::new(alloc);
     let mut buffer = [0; BUFFER_BYTES];
     while bytes.len() < most {
         let wanted = (most - bytes.len()).min(buffer.len());
-        let count = file
+        let count = reader
             .read(&mut buffer[..wanted])
             .map_err(|_| ShelfFault::Failed)?;
         if count == 0 {

@@ -9,12 +9,10 @@ mod mem_sink;
 mod out;
 mod shelf;
 mod sink;
-#[cfg(test)]
-mod tests;
 
 pub use clean_shelf::CleanShelf;
 pub use clean_sink::CleanSink;
-pub use disk::DiskShelf;
+pub use disk::{DiskShelf, read_first};
 pub use mem_shelf::MemShelf;
 pub use mem_sink::MemSink;
 pub use out::OutSink;

@@ -1,4 +1,5 @@
-ghost use Rattle.std.specs.Prelude.{◌≡◌, None, is_ok, if◌then◌else◌};
+ghost use Rattle.std.specs.Prelude.{◌≡◌, None, is_ok, if◌then◌else◌, OnOk};
+ghost use Rattle.std.specs.Io.KnownBytes.{Appends};
 ghost use Rattle.dom_io.specs.Causes.{HasCause, next_number};
 ghost use Rattle.dom_io.specs.Held.{Puts};
 
@@ -30,6 +31,7 @@ impl<W: Write> Sink for OutSink<W> {
     fn put(&mut self, bytes: &[u8]) -> Result<(), SinkFault>
         ensures bytes { Puts None None bytes.now result }
         ensures cause { HasCause self.old.faults self.new.faults result }
+        ensures sent { OnOk result (Appends (W.contents self.old.out) (W.contents self.new.out) bytes.now) }
         ensures count { self.new.faults ≡ (if is_ok result then self.old.faults else next_number self.old.faults) }
     {
         let result = write_and_flush(&mut self.out, bytes);
@@ -41,7 +43,9 @@ impl<W: Write> Sink for OutSink<W> {
 }
 
 // All of the bytes, in as many writes as the output needs. An output that takes nothing of them has failed.
-fn write_and_flush<W: Write>(out: &mut W, bytes: &[u8]) -> Result<(), SinkFault> {
+fn write_and_flush<W: Write>(out: &mut W, bytes: &[u8]) -> Result<(), SinkFault>
+    ensures { OnOk result (Appends (W.contents out.old) (W.contents out.new) bytes.now) }
+{
     let mut rest = bytes;
     while !rest.is_empty() {
         let count = out.write(rest).map_err(|_| SinkFault)?;

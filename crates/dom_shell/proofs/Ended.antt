@@ -1,31 +1,25 @@
--- What a call answers, from how its command ended.
-use Rattle.std.proofs.Common.{◌≡◌, ℕ, ◌<◌, ◌≤◌, ◌⊎◌, inl, inr, List, length, refl, sym, ap, ◌∙◌, subst, Option, Some, None, Result, Ok, Err, MatchResult, arith}
+-- What a call answers, from how it ended.
+use Rattle.std.proofs.Common.{◌≡◌, ℕ, ◌<◌, ◌≤◌, ◌⊎◌, inl, inr, List, [], refl, sym, ap, ◌∙◌, subst, Option, Some, None, Result, Ok, Err, MatchResult, arith}
 use Rattle.dom_io.specs.Causes.{HasCause, Rose}
-use Rattle.dom_io.specs.Held.{Puts, appended}
+use Rattle.dom_io.specs.Held.{IsPart, Puts, appended}
 use Rattle.dom_io.specs.declared.sink.SinkFault.{SinkFault}
 use Rattle.dom_words.specs.State.{Hash}
-use Rattle.trace_text.specs.Trace.{entries}
-use Rattle.dom_shell.specs.Accumulator.{serial_packets, serial_state}
-use Rattle.dom_shell.specs.Clocking.{IsPart}
-use Rattle.dom_shell.specs.Command.{Command, command_of}
-use Rattle.dom_shell.specs.Ends.{AreKept, AreStopped, IsCut, IsEnd, IsPut, Tried, cut, ends, fails, wants, whole}
-use Rattle.dom_shell.specs.Job.{Job, clocked, ill, in_turn, of_another, of_form, well, bad_trace, good_trace, long_trace, IsTraceAnswer, IsJudged, depth_of, fields_of, report_of}
-use Rattle.dom_shell.specs.Command.{run, serial}
-use Rattle.dom_shell.specs.ProgramAnswer.{IsProgramAnswer, long_program, no_tokens, no_tree, violated, well_formed}
-use Rattle.dom_shell.specs.Refusals.{refusal_line, refusal_status, words_line}
-use Rattle.dom_shell.specs.Result.{Answers, Finding, IsFound, IsFoundBy, IsRefused, IsReported, IsResult, IsSerial, IsUnread, MayHold, PutsPart, Reads, by_job, by_program, by_trace, bytes_of, no_command, some_command, status_of}
-use Rattle.dom_shell.specs.Stops.{StopCause, StopCounts}
-use Rattle.dom_shell.specs.declared.reading.Stop.{Stop}
-use Rattle.dom_shell.specs.declared.reading.Stop.TheVariants.{Refused, Unread, Memory}
-use Rattle.dom_shell.specs.declared.refusals.Refusal.{Refusal}
-use Rattle.dom_shell.specs.declared.refusals.Refusal.TheVariants as refusal
-use Rattle.dom_shell.proofs.OneFinding.{one_finding}
-use Rattle.dom_shell.proofs.Packets.{packets_of-entries}
-use Rattle.dom_shell.proofs.Serial.{pipe_packets, pipe_state}
+use Rattle.dom_finding.specs.Command.{Command, command_of}
+use Rattle.dom_finding.specs.Finding.{Finding, IsFoundAfter, IsTold, IsUnreadAfter, Job, MayHold, here, later}
+use Rattle.dom_finding.specs.Refusals.{refusal_status, words_line}
+use Rattle.dom_finding.specs.Stops.{AreKept, StopAfter}
+use Rattle.dom_finding.specs.declared.reading.Stop.{Stop}
+use Rattle.dom_finding.specs.declared.reading.Stop.TheVariants.{Refused, Unread, Memory}
+use Rattle.dom_finding.specs.declared.refusals.Refusal.{Refusal}
+use Rattle.dom_finding.specs.declared.refusals.Refusal.TheVariants as refusal
+use Rattle.dom_finding.proofs.OneFinding.{found_in_weaker, one_finding, told_may}
+use Rattle.dom_shell.specs.Call as said
+use Rattle.dom_shell.specs.Call.{Answers, IsAnswer, IsPut, IsPutInPart, IsResult, IsUnread, bytes_of, report_of, status_of}
+use Rattle.dom_shell.specs.Ends.{AreStopped, Call, IsEnd, IsEndAfter, IsUnput, Sent, Tried, cut, ends, fails, no_command, some_command, wants, whole}
 
--- a finding's status is 3 at most, and 0 for a report alone
+-- A refusal's status is 1 or 3.
+
 status_small : (r : Refusal) → refusal_status r ≤ 3
-status_small refusal.Words = omega arith
 status_small refusal.NotBuilt = omega arith
 status_small refusal.ProgramLimit = omega arith
 status_small (refusal.Lex f) = omega arith
@@ -34,246 +28,191 @@ status_small (refusal.Check f) = omega arith
 status_small refusal.TraceLimit = omega arith
 status_small (refusal.Trace f) = omega arith
 
-status_some : (r : Refusal) → 0 < refusal_status r
-status_some refusal.Words = omega arith
-status_some refusal.NotBuilt = omega arith
-status_some refusal.ProgramLimit = omega arith
-status_some (refusal.Lex f) = omega arith
-status_some (refusal.Parse f) = omega arith
-status_some (refusal.Check f) = omega arith
-status_some refusal.TraceLimit = omega arith
-status_some (refusal.Trace f) = omega arith
+status_not_two : (r : Refusal) → refusal_status r ≡ 2 → ⊥
+status_not_two refusal.NotBuilt e = omega arith
+status_not_two refusal.ProgramLimit e = omega arith
+status_not_two (refusal.Lex f) e = omega arith
+status_not_two (refusal.Parse f) e = omega arith
+status_not_two (refusal.Check f) e = omega arith
+status_not_two refusal.TraceLimit e = omega arith
+status_not_two (refusal.Trace f) e = omega arith
 
 few : (found : Finding) → status_of found ≤ 3
-few (Ok f) = omega arith
+few (Ok job) = omega arith
 few (Err r) = status_small r
 
--- no command finds that the words are of no form
-words_by_program : (text : List ℕ) → IsProgramAnswer text (Err refusal.Words) → ⊥
-words_by_program text (long_program a e) = cc
-words_by_program text (no_tokens f a e) = cc
-words_by_program text (no_tree f a e) = cc
-words_by_program text (violated f a e) = cc
-words_by_program text (well_formed c a e) = cc
+not_two : (found : Finding) → status_of found ≡ 2 → ⊥
+not_two (Ok job) e = omega arith
+not_two (Err r) e = status_not_two r e
 
-words_judged : (command : Command) (text : List ℕ) → IsJudged command text (Err refusal.Words) → ⊥
-words_judged (run names) text (of_form n a e) = cc
-words_judged (run names) text (of_another a e) = cc
-words_judged (serial names) text (well c a e) = cc
-words_judged (serial names) text (ill r a e) = words_by_program text (subst (λ (x : Refusal). IsProgramAnswer text (Err x)) (let same : r ≡ refusal.Words = cc in same) a)
+-- A call has one result.
 
-words_read : (text : List ℕ) (fields : List (List ℕ)) (depth : ℕ) → IsTraceAnswer text fields depth (Err refusal.Words) → ⊥
-words_read text fields depth (long_trace a e) = cc
-words_read text fields depth (bad_trace r small a e) = cc
-words_read text fields depth (good_trace p small a e) = cc
+pub one_answer : (hash : Hash) (files : List ℕ → Option (List ℕ)) (words : List (List ℕ)) (s t : ℕ) (a b : List ℕ) → IsAnswer hash (MayHold files) words s a → IsAnswer hash (IsTold files) words t b → (s ≡ t) × (a ≡ b)
+one_answer hash files words s t a b (said.no_command n e d) (said.no_command m f g) = (e ∙ sym f, d ∙ sym g)
+one_answer hash files words s t a b (said.no_command n e d) (said.some_command k found m x f g) = absurd (cc)
+one_answer hash files words s t a b (said.some_command k found n x e d) (said.no_command m f g) = absurd (cc)
+one_answer hash files words s t a b (said.some_command k found n x e d) (said.some_command l other m y f g) =
+    let same : l ≡ k = cc in
+    let one = one_finding files k [] found other x (subst (λ (z : Command). IsFoundAfter (IsTold files) z [] other) same y) in
+    (e ∙ ap status_of one ∙ sym f, d ∙ ap (bytes_of hash) one ∙ sym g)
 
-module _ (files : List ℕ → Option (List ℕ)) (command : Command) where
-  found_words : (found : Finding) → found ≡ Err refusal.Words → IsFoundBy (MayHold files) command found → ⊥
-  found_words found is (by_program r a e) = let same : r ≡ refusal.Words = cc in let j = a.judged in words_judged command a.program (subst (λ (x : Refusal). IsJudged command a.program (Err x)) same j)
-  found_words found is (by_trace j r a e) =
-      let same : r ≡ refusal.Words = cc in
-      words_read a.trace (fields_of j) (depth_of j) (subst (λ (x : Refusal). IsTraceAnswer a.trace (fields_of j) (depth_of j) (Err x)) same a.is_read)
-  found_words found is (by_job j p a e) = cc
+-- Where files are told, they may hold what they are told to hold.
+told_answer : (hash : Hash) (files : List ℕ → Option (List ℕ)) (words : List (List ℕ)) (status : ℕ) (bytes : List ℕ) → IsResult hash words files status bytes → IsAnswer hash (MayHold files) words status bytes
+told_answer hash files words status bytes (said.no_command n e d) = said.no_command n e d
+told_answer hash files words status bytes (said.some_command k f n x e d) =
+    said.some_command k f n (found_in_weaker (IsTold files) (MayHold files) k [] f (told_may files) x) e d
 
-status_two : (r : Refusal) → refusal_status r ≡ 2 → r ≡ refusal.Words
-status_two refusal.Words e = refl
-status_two refusal.NotBuilt e = absurd (omega arith)
-status_two refusal.ProgramLimit e = absurd (omega arith)
-status_two (refusal.Lex f) e = absurd (omega arith)
-status_two (refusal.Parse f) e = absurd (omega arith)
-status_two (refusal.Check f) e = absurd (omega arith)
-status_two refusal.TraceLimit e = absurd (omega arith)
-status_two (refusal.Trace f) e = absurd (omega arith)
+pub one_result : (hash : Hash) (files : List ℕ → Option (List ℕ)) (words : List (List ℕ)) (s t : ℕ) (a b : List ℕ) → IsResult hash words files s a → IsResult hash words files t b → (s ≡ t) × (a ≡ b)
+one_result hash files words s t a b x y = one_answer hash files words s t a b (told_answer hash files words s a x) y
 
-finding_two : (found : Finding) → status_of found ≡ 2 → found ≡ Err refusal.Words
-finding_two (Ok f) e = absurd (omega arith)
-finding_two (Err r) e = ap Err (status_two r e)
+-- The bytes of an answer, as far as they were put.
 
--- the packets of a report are those of the serial run
-is_serial : (job : Job) (packets : List (ℕ × List ℕ)) → IsSerial job packets
-is_serial (clocked n) packets = record {
-  packets_are = pipe_packets (entries packets) ∙ ap serial_packets (packets_of-entries packets);
-  state_is = pipe_state (entries packets) ∙ ap serial_state (packets_of-entries packets);
-}
-is_serial (in_turn c) packets = tt
+module _ (hash : Hash) (words : List (List ℕ)) (files : List ℕ → Option (List ℕ)) (s : Sent) (status : ℕ) (bytes : List ℕ) (is : IsAnswer hash (MayHold files) words status bytes) where
+  tried_exact : Tried status bytes s → (other : ℕ) (line : List ℕ) → IsResult hash words files other line → Answers other line s.answer s.held_before s.held_after
+  tried_exact (whole a p w) other line result =
+      let one = one_answer hash files words status other bytes line is result in inl (a ∙ one.0, p ∙ ap (appended s.held_before) one.1)
+  tried_exact (cut a p r l) other line result =
+      let one = one_answer hash files words status other bytes line is result in
+      inr (inr (inl (a, subst (λ (b : List ℕ). IsPart s.held_before s.held_after b) one.1 p)))
 
--- what was tried of a finding, and what the call answers then
-exact_tried : (hash : Hash) (words : List (List ℕ)) (files : List ℕ → Option (List ℕ)) (found : Finding) (status : ℕ) (bytes : List ℕ) (answer : ℕ) (held held' : Option (List ℕ)) (puts puts' : ℕ)
-    → IsFound (MayHold files) words found → Tried (status_of found) (bytes_of hash found) answer held held' puts puts' → IsResult hash words files status bytes
-    → Answers status bytes answer held held'
-exact_tried hash words files found status bytes answer held held' puts puts' is (whole p) result =
-    let same = one_finding files words found result.found is result.is_found in
-    inl (p.answer_is ∙ ap status_of same ∙ sym result.status_is, p.put ∙ ap (λ (f : Finding). appended held (bytes_of hash f)) same ∙ ap (appended held) (sym result.bytes_are))
-exact_tried hash words files found status bytes answer held held' puts puts' is (cut p) result =
-    let same = one_finding files words found result.found is result.is_found in
-    let line : bytes_of hash found ≡ bytes = ap (bytes_of hash) same ∙ sym result.bytes_are in
-    inr (inr (inl (p.answer_is, subst (λ (b : List ℕ). IsPart held held' b) line p.part)))
+  tried_put : Tried status bytes s → s.answer < 4 → IsPut hash words files s.answer s.held_before s.held_after
+  tried_put (whole a p w) small =
+      record { bytes = bytes; answer = subst (λ (n : ℕ). IsAnswer hash (MayHold files) words n bytes) (sym a) is; put = p }
+  tried_put (cut a p r l) small = absurd (omega arith)
 
-refused_tried : (hash : Hash) (words : List (List ℕ)) (files : List ℕ → Option (List ℕ)) (found : Finding) (answer status : ℕ) (held held' : Option (List ℕ)) (puts puts' : ℕ)
-    → 0 < status → status < 4 → IsFound (MayHold files) words found → Tried (status_of found) (bytes_of hash found) answer held held' puts puts' → answer ≡ status
-    → IsRefused words files status held held'
-refused_tried hash words files (Ok f) answer status held held' puts puts' some small is (whole p) e = let a = p.answer_is in absurd (omega arith)
-refused_tried hash words files (Err r) answer status held held' puts puts' some small is (whole p) e =
-    record { refusal = r; is_found = is; status_is = sym p.answer_is ∙ e; put = p.put }
-refused_tried hash words files found answer status held held' puts puts' some small is (cut p) e = let a = p.answer_is in absurd (omega arith)
+  tried_part : status ≤ 3 → Tried status bytes s → s.answer ≡ 5 → IsPutInPart hash words files s.held_before s.held_after
+  tried_part small (whole a p w) e = absurd (omega arith)
+  tried_part small (cut a p r l) e = record { status = status; bytes = bytes; answer = is; part = p }
 
-reported_tried : (hash : Hash) (words : List (List ℕ)) (files : List ℕ → Option (List ℕ)) (found : Finding) (answer : ℕ) (held held' : Option (List ℕ)) (puts puts' : ℕ)
-    → IsFound (MayHold files) words found → Tried (status_of found) (bytes_of hash found) answer held held' puts puts' → answer ≡ 0
-    → IsReported hash words files held held'
-reported_tried hash words files (Ok f) answer held held' puts puts' is (whole p) e =
-    record { job = f.0; packets = f.1; is_found = is; put = p.put; serial = is_serial f.0 f.1 }
-reported_tried hash words files (Err r) answer held held' puts puts' is (whole p) e = let a = p.answer_is in absurd (omega (arith, status_some r))
-reported_tried hash words files found answer held held' puts puts' is (cut p) e = let a = p.answer_is in absurd (omega arith)
+module _ (s : Sent) (status : ℕ) (bytes : List ℕ) (small : status ≤ 3) where
+  tried_small : Tried status bytes s → s.answer ≤ 6
+  tried_small (whole a p w) = omega arith
+  tried_small (cut a p r l) = omega arith
 
-part_tried : (hash : Hash) (words : List (List ℕ)) (files : List ℕ → Option (List ℕ)) (found : Finding) (answer : ℕ) (held held' : Option (List ℕ)) (puts puts' : ℕ)
-    → IsFound (MayHold files) words found → Tried (status_of found) (bytes_of hash found) answer held held' puts puts' → answer ≡ 5
-    → PutsPart hash words files held held'
-part_tried hash words files found answer held held' puts puts' is (whole p) e = let a = p.answer_is in absurd (omega (arith, few found))
-part_tried hash words files found answer held held' puts puts' is (cut p) e = record { found = found; is_found = is; part = p.part }
+  tried_not : Tried status bytes s → (s.answer ≡ 4) ⊎ (s.answer ≡ 6) → ⊥
+  tried_not (whole a p w) (inl e) = omega arith
+  tried_not (whole a p w) (inr e) = omega arith
+  tried_not (cut a p r l) (inl e) = omega arith
+  tried_not (cut a p r l) (inr e) = omega arith
 
--- how a line was put, or not
-pub line_small : (status : ℕ) (bytes : List ℕ) (answer : ℕ) (held held' : Option (List ℕ)) (puts puts' : ℕ) → status ≤ 6 → Tried status bytes answer held held' puts puts' → answer ≤ 6
-line_small status bytes answer held held' puts puts' small (whole p) = let a = p.answer_is in omega arith
-line_small status bytes answer held held' puts puts' small (cut p) = let a = p.answer_is in omega arith
+  tried_rose : Tried status bytes s → s.answer ≡ 5 → Rose s.faults_before s.faults_after
+  tried_rose (whole a p w) e = absurd (omega arith)
+  tried_rose (cut a p r l) e = r
 
-pub line_later : (status : ℕ) (bytes : List ℕ) (answer : ℕ) (held held' : Option (List ℕ)) (puts puts' : ℕ) → Tried status bytes answer held held' puts puts' → puts ≤ puts'
-line_later status bytes answer held held' puts puts' (whole p) = let w = p.writes in omega arith
-line_later status bytes answer held held' puts puts' (cut p) = p.later
+  tried_later : Tried status bytes s → s.faults_before ≤ s.faults_after
+  tried_later (whole a p w) = omega arith
+  tried_later (cut a p r l) = l
 
-pub line_rose : (status : ℕ) (bytes : List ℕ) (answer : ℕ) (held held' : Option (List ℕ)) (puts puts' : ℕ) → status < 5 → Tried status bytes answer held held' puts puts' → answer ≡ 5 → Rose puts puts'
-line_rose status bytes answer held held' puts puts' small (whole p) e = let a = p.answer_is in absurd (omega arith)
-line_rose status bytes answer held held' puts puts' small (cut p) e = p.rose
+  tried_kept : Tried status bytes s → (s.answer ≡ 5 → ⊥) → s.faults_after ≡ s.faults_before
+  tried_kept (whole a p w) other = w
+  tried_kept (cut a p r l) other = absurd (other a)
 
-pub line_kept : (status : ℕ) (bytes : List ℕ) (answer : ℕ) (held held' : Option (List ℕ)) (puts puts' : ℕ) → Tried status bytes answer held held' puts puts' → (answer ≡ 5 → ⊥) → puts' ≡ puts
-line_kept status bytes answer held held' puts puts' (whole p) other = p.writes
-line_kept status bytes answer held held' puts puts' (cut p) other = absurd (other p.answer_is)
+-- How a call ends.
 
--- The call whose words are of no form.
+module _ {words : List (List ℕ)} {call : Call} where
+  pub small : IsEnd words call → call.sent.answer ≤ 6
+  small (no_command n k t) = tried_small call.sent 2 words_line (omega arith) t
+  small (some_command c n (ends f x k t)) = tried_small call.sent (status_of f) (bytes_of call.hash f) (few f) t
+  small (some_command c n (fails u l p)) = let a = p.answer_is in omega arith
+  small (some_command c n (wants k p)) = let a = p.answer_is in omega arith
 
-module _ (hash : Hash) (words : List (List ℕ)) (files : List ℕ → Option (List ℕ)) (answer : ℕ) (held held' : Option (List ℕ)) (puts puts' : ℕ) where
-  is_words : command_of words ≡ None → IsFound (MayHold files) words (Err refusal.Words)
-  is_words none = no_command none refl
+  pub exact : IsEnd words call → (status : ℕ) (bytes : List ℕ) → IsResult call.hash words call.files status bytes → Answers status bytes call.sent.answer call.sent.held_before call.sent.held_after
+  exact (no_command n k t) status bytes is = tried_exact call.hash words call.files call.sent 2 words_line (said.no_command n refl refl) t status bytes is
+  exact (some_command c n (ends f x k t)) status bytes is =
+      tried_exact call.hash words call.files call.sent (status_of f) (bytes_of call.hash f) (said.some_command c f n x refl refl) t status bytes is
+  exact (some_command c n (fails u l p)) status bytes is = inr (inl p.answer_is)
+  exact (some_command c n (wants k p)) status bytes is = inr (inr (inr p.answer_is))
 
-  pub words_exact : command_of words ≡ None → Tried 2 words_line answer held held' puts puts' → (status : ℕ) (bytes : List ℕ) → IsResult hash words files status bytes
-      → Answers status bytes answer held held'
-  words_exact none tried status bytes result = exact_tried hash words files (Err refusal.Words) status bytes answer held held' puts puts' (is_words none) tried result
+  pub only_words : IsEnd words call → command_of words ≡ None → (call.sent.answer ≡ 2) ⊎ (call.sent.answer ≡ 5)
+  only_words (no_command n k (whole a p w)) none = inl a
+  only_words (no_command n k (cut a p r l)) none = inr a
+  only_words (some_command c n e) none = absurd (cc)
 
-  pub words_either : Tried 2 words_line answer held held' puts puts' → (answer ≡ 2) ⊎ (answer ≡ 5)
-  words_either (whole p) = inl p.answer_is
-  words_either (cut p) = inr p.answer_is
+  pub no_words : IsEnd words call → call.sent.answer ≡ 2 → command_of words ≡ None
+  no_words (no_command n k t) e = n
+  no_words (some_command c n (ends f x k (whole a p w))) e = absurd (not_two f (sym a ∙ e))
+  no_words (some_command c n (ends f x k (cut a p r l))) e = absurd (omega arith)
+  no_words (some_command c n (fails u l p)) e = let a = p.answer_is in absurd (omega arith)
+  no_words (some_command c n (wants k p)) e = let a = p.answer_is in absurd (omega arith)
 
-  pub words_put : command_of words ≡ None → Tried 2 words_line answer held held' puts puts' → answer ≡ 2 → (command_of words ≡ None) × (held' ≡ appended held words_line)
-  words_put none (whole p) e = (none, p.put)
-  words_put none (cut p) e = let a = p.answer_is in absurd (omega arith)
+  pub put : IsEnd words call → call.sent.answer < 4 → IsPut call.hash words call.files call.sent.answer call.sent.held_before call.sent.held_after
+  put (no_command n k t) few_are = tried_put call.hash words call.files call.sent 2 words_line (said.no_command n refl refl) t few_are
+  put (some_command c n (ends f x k t)) few_are =
+      tried_put call.hash words call.files call.sent (status_of f) (bytes_of call.hash f) (said.some_command c f n x refl refl) t few_are
+  put (some_command c n (fails u l p)) few_are = let a = p.answer_is in absurd (omega arith)
+  put (some_command c n (wants k p)) few_are = let a = p.answer_is in absurd (omega arith)
 
-  pub words_part : command_of words ≡ None → Tried 2 words_line answer held held' puts puts' → answer ≡ 5 → PutsPart hash words files held held'
-  words_part none tried e = part_tried hash words files (Err refusal.Words) answer held held' puts puts' (is_words none) tried e
+  pub part : IsEnd words call → call.sent.answer ≡ 5 → IsPutInPart call.hash words call.files call.sent.held_before call.sent.held_after
+  part (no_command n k t) e = tried_part call.hash words call.files call.sent 2 words_line (said.no_command n refl refl) (omega arith) t e
+  part (some_command c n (ends f x k t)) e =
+      tried_part call.hash words call.files call.sent (status_of f) (bytes_of call.hash f) (said.some_command c f n x refl refl) (few f) t e
+  part (some_command c n (fails u l p)) e = let a = p.answer_is in absurd (omega arith)
+  part (some_command c n (wants k p)) e = let a = p.answer_is in absurd (omega arith)
 
-  pub words_not : (other : ℕ) → (other ≡ 2 → ⊥) → (other ≡ 5 → ⊥) → Tried 2 words_line answer held held' puts puts' → answer ≡ other → ⊥
-  words_not other not_two not_five (whole p) e = not_two (sym e ∙ p.answer_is)
-  words_not other not_two not_five (cut p) e = not_five (sym e ∙ p.answer_is)
+  pub unread : IsEnd words call → call.sent.answer ≡ 4 → IsUnread words call.files call.unread_before call.unread_after
+  unread (no_command n k t) e = absurd (tried_not call.sent 2 words_line (omega arith) t (inl e))
+  unread (some_command c n (ends f x k t)) e = absurd (tried_not call.sent (status_of f) (bytes_of call.hash f) (few f) t (inl e))
+  unread (some_command c n (fails u l p)) e = record { command = c; form = n; unread = u }
+  unread (some_command c n (wants k p)) e = let a = p.answer_is in absurd (omega arith)
 
--- The call of a command.
+  pub reads_later : IsEnd words call → (name : List ℕ) → call.unread_before name ≤ call.unread_after name
+  reads_later (no_command n k t) name = let e = k name in omega arith
+  reads_later (some_command c n (ends f x k t)) name = let e = k name in omega arith
+  reads_later (some_command c n (fails u l p)) name = l name
+  reads_later (some_command c n (wants k p)) name = let e = k name in omega arith
 
-module _ (hash : Hash) (words : List (List ℕ)) (command : Command) (files : List ℕ → Option (List ℕ)) (before now : List ℕ → ℕ) (answer : ℕ) (held held' : Option (List ℕ)) (puts puts' : ℕ) (some : command_of words ≡ Some command) where
-  pub end_small : IsEnd hash command files before now answer held held' puts puts' → answer ≤ 6
-  end_small (ends p) = let f = few p.found in line_small (status_of p.found) (bytes_of hash p.found) answer held held' puts puts' (omega arith) p.tried
-  end_small (fails p) = let a = p.unput.answer_is in omega arith
-  end_small (wants p) = let a = p.want.answer_is in omega arith
+  pub reads : IsEnd words call → (call.sent.answer ≡ 4 → ⊥) → AreKept call.unread_before call.unread_after
+  reads (no_command n k t) other = k
+  reads (some_command c n (ends f x k t)) other = k
+  reads (some_command c n (fails u l p)) other = absurd (other p.answer_is)
+  reads (some_command c n (wants k p)) other = k
 
-  pub end_exact : IsEnd hash command files before now answer held held' puts puts' → (status : ℕ) (bytes : List ℕ) → IsResult hash words files status bytes → Answers status bytes answer held held'
-  end_exact (ends p) status bytes result = exact_tried hash words files p.found status bytes answer held held' puts puts' (some_command command some p.is_found) p.tried result
-  end_exact (fails p) status bytes result = inr (inl p.unput.answer_is)
-  end_exact (wants p) status bytes result = inr (inr (inr p.want.answer_is))
+  pub rose : IsEnd words call → call.sent.answer ≡ 5 → Rose call.sent.faults_before call.sent.faults_after
+  rose (no_command n k t) e = tried_rose call.sent 2 words_line (omega arith) t e
+  rose (some_command c n (ends f x k t)) e = tried_rose call.sent (status_of f) (bytes_of call.hash f) (few f) t e
+  rose (some_command c n (fails u l p)) e = let a = p.answer_is in absurd (omega arith)
+  rose (some_command c n (wants k p)) e = let a = p.answer_is in absurd (omega arith)
 
-  pub end_words : command_of words ≡ None → (answer ≡ 2) ⊎ (answer ≡ 5)
-  end_words none = absurd (cc)
+  pub writes_later : IsEnd words call → call.sent.faults_before ≤ call.sent.faults_after
+  writes_later (no_command n k t) = tried_later call.sent 2 words_line (omega arith) t
+  writes_later (some_command c n (ends f x k t)) = tried_later call.sent (status_of f) (bytes_of call.hash f) (few f) t
+  writes_later (some_command c n (fails u l p)) = let w = p.writes in omega arith
+  writes_later (some_command c n (wants k p)) = let w = p.writes in omega arith
 
-  pub end_two : IsEnd hash command files before now answer held held' puts puts' → answer ≡ 2 → (command_of words ≡ None) × (held' ≡ appended held words_line)
-  end_two (ends p) e = absurd (two p.found p.is_found p.tried)
-    where
-      two : (found : Finding) → IsFoundBy (MayHold files) command found → Tried (status_of found) (bytes_of hash found) answer held held' puts puts' → ⊥
-      two found is (whole w) = found_words files command found (finding_two found (sym w.answer_is ∙ e)) is
-      two found is (cut w) = let a = w.answer_is in omega arith
-  end_two (fails p) e = let a = p.unput.answer_is in absurd (omega arith)
-  end_two (wants p) e = let a = p.want.answer_is in absurd (omega arith)
+  pub writes : IsEnd words call → (call.sent.answer ≡ 5 → ⊥) → call.sent.faults_after ≡ call.sent.faults_before
+  writes (no_command n k t) other = tried_kept call.sent 2 words_line (omega arith) t other
+  writes (some_command c n (ends f x k t)) other = tried_kept call.sent (status_of f) (bytes_of call.hash f) (few f) t other
+  writes (some_command c n (fails u l p)) other = p.writes
+  writes (some_command c n (wants k p)) other = p.writes
 
-  pub end_refused : (status : ℕ) → 0 < status → status < 4 → IsEnd hash command files before now answer held held' puts puts' → answer ≡ status → IsRefused words files status held held'
-  end_refused status low high (ends p) e = refused_tried hash words files p.found answer status held held' puts puts' low high (some_command command some p.is_found) p.tried e
-  end_refused status low high (fails p) e = let a = p.unput.answer_is in absurd (omega arith)
-  end_refused status low high (wants p) e = let a = p.want.answer_is in absurd (omega arith)
-
-  pub end_reported : IsEnd hash command files before now answer held held' puts puts' → answer ≡ 0 → IsReported hash words files held held'
-  end_reported (ends p) e = reported_tried hash words files p.found answer held held' puts puts' (some_command command some p.is_found) p.tried e
-  end_reported (fails p) e = let a = p.unput.answer_is in absurd (omega arith)
-  end_reported (wants p) e = let a = p.want.answer_is in absurd (omega arith)
-
-  pub end_part : IsEnd hash command files before now answer held held' puts puts' → answer ≡ 5 → PutsPart hash words files held held'
-  end_part (ends p) e = part_tried hash words files p.found answer held held' puts puts' (some_command command some p.is_found) p.tried e
-  end_part (fails p) e = let a = p.unput.answer_is in absurd (omega arith)
-  end_part (wants p) e = let a = p.want.answer_is in absurd (omega arith)
-
-  tried_not : (other : ℕ) → 3 < other → (other ≡ 5 → ⊥) → (found : Finding) → Tried (status_of found) (bytes_of hash found) answer held held' puts puts' → answer ≡ other → ⊥
-  tried_not other high not_five found (whole w) e = let a = w.answer_is in omega (arith, few found)
-  tried_not other high not_five found (cut w) e = not_five (sym e ∙ w.answer_is)
-
-  pub end_unread : IsEnd hash command files before now answer held held' puts puts' → answer ≡ 4 → IsUnread words files before now
-  end_unread (ends p) e = absurd (tried_not 4 (omega arith) (λ x. absurd (omega arith)) p.found p.tried e)
-  end_unread (fails p) e = record { command = command; form = some; unread = p.unread }
-  end_unread (wants p) e = let a = p.want.answer_is in absurd (omega arith)
-
-  pub end_reads_later : IsEnd hash command files before now answer held held' puts puts' → (name : List ℕ) → before name ≤ now name
-  end_reads_later (ends p) name = let k = p.reads name in omega arith
-  end_reads_later (fails p) name = p.later name
-  end_reads_later (wants p) name = let k = p.reads name in omega arith
-
-  pub end_reads : IsEnd hash command files before now answer held held' puts puts' → (answer ≡ 4 → ⊥) → (name : List ℕ) → now name ≡ before name
-  end_reads (ends p) other name = p.reads name
-  end_reads (fails p) other name = absurd (other p.unput.answer_is)
-  end_reads (wants p) other name = p.reads name
-
-  pub end_rose : IsEnd hash command files before now answer held held' puts puts' → answer ≡ 5 → Rose puts puts'
-  end_rose (ends p) e = let f = few p.found in line_rose (status_of p.found) (bytes_of hash p.found) answer held held' puts puts' (omega arith) p.tried e
-  end_rose (fails p) e = let a = p.unput.answer_is in absurd (omega arith)
-  end_rose (wants p) e = let a = p.want.answer_is in absurd (omega arith)
-
-  pub end_writes_later : IsEnd hash command files before now answer held held' puts puts' → puts ≤ puts'
-  end_writes_later (ends p) = line_later (status_of p.found) (bytes_of hash p.found) answer held held' puts puts' p.tried
-  end_writes_later (fails p) = let w = p.unput.writes in omega arith
-  end_writes_later (wants p) = let w = p.want.writes in omega arith
-
-  pub end_writes : IsEnd hash command files before now answer held held' puts puts' → (answer ≡ 5 → ⊥) → puts' ≡ puts
-  end_writes (ends p) other = line_kept (status_of p.found) (bytes_of hash p.found) answer held held' puts puts' p.tried other
-  end_writes (fails p) other = p.unput.writes
-  end_writes (wants p) other = p.want.writes
-
-  pub end_unput : (other : ℕ) → 3 < other → (other ≡ 5 → ⊥) → IsEnd hash command files before now answer held held' puts puts' → answer ≡ other → held' ≡ held
-  end_unput other high not_five (ends p) e = absurd (tried_not other high not_five p.found p.tried e)
-  end_unput other high not_five (fails p) e = p.unput.unput
-  end_unput other high not_five (wants p) e = p.want.unput
+  pub unput : IsEnd words call → (call.sent.answer ≡ 4) ⊎ (call.sent.answer ≡ 6) → call.sent.held_after ≡ call.sent.held_before
+  unput (no_command n k t) e = absurd (tried_not call.sent 2 words_line (omega arith) t e)
+  unput (some_command c n (ends f x k t)) e = absurd (tried_not call.sent (status_of f) (bytes_of call.hash f) (few f) t e)
+  unput (some_command c n (fails u l p)) e = p.unput
+  unput (some_command c n (wants k p)) e = p.unput
 
 -- How a command ends, from what it did.
 
-module _ (hash : Hash) (command : Command) (files : List ℕ → Option (List ℕ)) (before now : List ℕ → ℕ) (answer : ℕ) (held held' : Option (List ℕ)) (puts puts' : ℕ) where
+module _ (command : Command) (call : Call) where
   -- a report that was put, or that the sink did not take
-  pub report_end : (job : Job) (packets : List (ℕ × List ℕ)) (put : Result (Unit {0}) SinkFault) → Reads (MayHold files) command job (Ok packets) → AreKept before now
-      → Puts held held' (report_of hash job packets) put → HasCause puts puts' put → MatchResult put (λ _. answer ≡ 0) (λ _. answer ≡ 5)
-      → IsEnd hash command files before now answer held held' puts puts'
-  report_end job packets (Ok x) reads kept bytes cause is =
-      ends (record { found = Ok (job, packets); is_found = by_job job packets reads refl; reads = kept; tried = whole (record { answer_is = is; put = bytes; writes = cause.kept }) })
-  report_end job packets (Err e) reads kept bytes cause is =
-      ends
-      (record {
-        found = Ok (job, packets);
-        is_found = by_job job packets reads refl;
-        reads = kept;
-        tried = cut (record { answer_is = is; part = bytes; rose = cause.failed; later = cause.later });
-      })
+  pub report_end : (job : Job) (result : Result (Unit {0}) SinkFault) → IsFoundAfter (MayHold call.files) command [] (Ok job) → AreKept call.unread_before call.unread_after
+      → Puts call.sent.held_before call.sent.held_after (report_of call.hash job) result → HasCause call.sent.faults_before call.sent.faults_after result
+      → MatchResult result (λ _. call.sent.answer ≡ 0) (λ _. call.sent.answer ≡ 5) → IsEndAfter command call
+  report_end job (Ok x) found kept bytes cause is = ends (Ok job) found kept (whole is bytes cause.kept)
+  report_end job (Err e) found kept bytes cause is = ends (Ok job) found kept (cut is bytes cause.failed cause.later)
 
   -- a stop
-  pub stop_end : (stop : Stop) → StopCause command files before now stop → StopCounts before now stop → AreStopped stop answer held held' puts puts'
-      → IsEnd hash command files before now answer held held' puts puts'
-  stop_end (Refused r) cause kept (inl t) = ends (record { found = Err r; is_found = cause; reads = kept; tried = t })
-  stop_end (Refused r) cause kept (inr want) = wants (record { reads = kept; want = want })
-  stop_end Unread cause later unput = fails (record { unread = cause; later = later; unput = unput })
-  stop_end Memory cause kept want = wants (record { reads = kept; want = want })
+  pub stop_end : (stop : Stop) → StopAfter command [] call.files call.unread_before call.unread_after stop → AreStopped stop call.sent → IsEndAfter command call
+  stop_end (Refused r) cause (inl t) = ends (Err r) cause.0 cause.1 t
+  stop_end (Refused r) cause (inr want) = wants cause.1 want
+  stop_end Unread cause unput_is = fails cause.0 cause.1 unput_is
+  stop_end Memory cause want = wants cause want
+
+-- A count that stands at 0 has not risen.
+
+pub never_rose : Rose 0 0 → ⊥
+never_rose rose = omega (arith, rose)
+
+pub never_unread : {Holds : List ℕ → List ℕ → Type 0} {command : Command} {texts : List (List ℕ)} → IsUnreadAfter Holds command texts (λ _. 0) (λ _. 0) → ⊥
+never_unread (here a n rose) = never_rose rose
+never_unread (later a text n h l is) = never_unread is

@@ -1,76 +1,64 @@
--- How a command ends.
-use Rattle.std.specs.Prelude.{◌≡◌, ℕ, ◌≤◌, ◌⊎◌, Option, List}
+-- How a call ends.
+use Rattle.std.specs.Prelude.{◌≡◌, ℕ, ◌≤◌, ◌⊎◌, Option, Some, None, List, []}
 use Rattle.dom_io.specs.Causes.{Rose}
-use Rattle.dom_io.specs.Held.{appended}
+use Rattle.dom_io.specs.Held.{IsPart, appended}
 use Rattle.dom_words.specs.State.{Hash}
-use Rattle.dom_shell.specs.Clocking.{IsPart}
-use Rattle.dom_shell.specs.Command.{Command}
-use Rattle.dom_shell.specs.Refusals.{refusal_line, refusal_status}
-use Rattle.dom_shell.specs.Result.{Finding, IsFoundBy, IsUnreadBy, MayHold, bytes_of, status_of}
-use Rattle.dom_shell.specs.declared.reading.Stop.{Stop}
-use Rattle.dom_shell.specs.declared.reading.Stop.TheVariants.{Refused, Unread, Memory}
+use Rattle.dom_finding.specs.Command.{Command, command_of}
+use Rattle.dom_finding.specs.Finding.{Finding, IsFoundAfter, IsUnreadAfter, MayHold}
+use Rattle.dom_finding.specs.Refusals.{refusal_line, refusal_status, words_line}
+use Rattle.dom_finding.specs.Stops.{AreKept, HaveNotFallen}
+use Rattle.dom_finding.specs.declared.reading.Stop.{Stop}
+use Rattle.dom_finding.specs.declared.reading.Stop.TheVariants.{Refused, Unread, Memory}
+use Rattle.dom_shell.specs.Call.{bytes_of, status_of}
 
--- no count of the shelf moved
-abbrev pub AreKept : (List ℕ → ℕ) → (List ℕ → ℕ) → Type 0
-AreKept before now = (name : List ℕ) → now name ≡ before name
+-- what was answered, what the sink held, and its count of faults, each before and after
+pub record Sent : Type 0 where
+  pub answer : ℕ
+  pub held_before : Option (List ℕ)
+  pub held_after : Option (List ℕ)
+  pub faults_before : ℕ
+  pub faults_after : ℕ
 
--- the bytes of a finding were put, and the status is its own
-pub record IsPut (status : ℕ) (bytes : List ℕ) (answer : ℕ) (held held' : Option (List ℕ)) (puts puts' : ℕ) : Type 0 where
-  pub answer_is : answer ≡ status
-  pub put : held' ≡ appended held bytes
-  pub writes : puts' ≡ puts
+-- a call: the hash functions, what the files hold, the shelf's counts of faults before and after, and what was sent
+pub record Call : Type 0 where
+  pub hash : Hash
+  pub files : List ℕ → Option (List ℕ)
+  pub unread_before : List ℕ → ℕ
+  pub unread_after : List ℕ → ℕ
+  pub sent : Sent
 
--- the sink failed behind some first ones of them
-pub record IsCut (bytes : List ℕ) (answer : ℕ) (held held' : Option (List ℕ)) (puts puts' : ℕ) : Type 0 where
-  pub answer_is : answer ≡ 5
-  pub part : IsPart held held' bytes
-  pub rose : Rose puts puts'
-  pub later : puts ≤ puts'
+abbrev pub sent_as : ℕ → Option (List ℕ) → Option (List ℕ) → ℕ → ℕ → Sent
+sent_as answer held held' faults faults' =
+    record { answer = answer; held_before = held; held_after = held'; faults_before = faults; faults_after = faults' }
 
--- memory was wanting before the first put
-pub record IsWant (answer : ℕ) (held held' : Option (List ℕ)) (puts puts' : ℕ) : Type 0 where
-  pub answer_is : answer ≡ 6
-  pub unput : held' ≡ held
-  pub writes : puts' ≡ puts
+abbrev pub call_of : Hash → (List ℕ → Option (List ℕ)) → (List ℕ → ℕ) → (List ℕ → ℕ) → Sent → Call
+call_of hash files unread unread' sent =
+    record { hash = hash; files = files; unread_before = unread; unread_after = unread'; sent = sent }
+
+-- the bytes were put and the status answered, or the sink failed behind some first ones of them
+pub data Tried (status : ℕ) (bytes : List ℕ) (s : Sent) : Type 0 where
+  whole : s.answer ≡ status → s.held_after ≡ appended s.held_before bytes → s.faults_after ≡ s.faults_before → Tried status bytes s
+  cut : s.answer ≡ 5 → IsPart s.held_before s.held_after bytes → Rose s.faults_before s.faults_after → s.faults_before ≤ s.faults_after → Tried status bytes s
 
 -- nothing was put
-pub record IsUnput (answer : ℕ) (held held' : Option (List ℕ)) (puts puts' : ℕ) : Type 0 where
-  pub answer_is : answer ≡ 4
-  pub unput : held' ≡ held
-  pub writes : puts' ≡ puts
-
--- how the putting of bytes ends
-pub data Tried (status : ℕ) (bytes : List ℕ) (answer : ℕ) (held held' : Option (List ℕ)) (puts puts' : ℕ) : Type 0 where
-  whole : IsPut status bytes answer held held' puts puts' → Tried status bytes answer held held' puts puts'
-  cut : IsCut bytes answer held held' puts puts' → Tried status bytes answer held held' puts puts'
-
--- what was found has been put, as far as the sink took it
-pub record Ends (hash : Hash) (command : Command) (files : List ℕ → Option (List ℕ)) (before now : List ℕ → ℕ) (answer : ℕ) (held held' : Option (List ℕ)) (puts puts' : ℕ) : Type 0 where
-  pub found : Finding
-  pub is_found : IsFoundBy (MayHold files) command found
-  pub reads : AreKept before now
-  pub tried : Tried (status_of found) (bytes_of hash found) answer held held' puts puts'
-
--- a file could not be read
-pub record Fails (command : Command) (files : List ℕ → Option (List ℕ)) (before now : List ℕ → ℕ) (answer : ℕ) (held held' : Option (List ℕ)) (puts puts' : ℕ) : Type 0 where
-  pub unread : IsUnreadBy command files before now
-  pub later : (name : List ℕ) → before name ≤ now name
-  pub unput : IsUnput answer held held' puts puts'
-
--- memory was wanting
-pub record Wants (before now : List ℕ → ℕ) (answer : ℕ) (held held' : Option (List ℕ)) (puts puts' : ℕ) : Type 0 where
-  pub reads : AreKept before now
-  pub want : IsWant answer held held' puts puts'
-
--- how a command ends
-pub data IsEnd (hash : Hash) (command : Command) (files : List ℕ → Option (List ℕ)) (before now : List ℕ → ℕ) (answer : ℕ) (held held' : Option (List ℕ)) (puts puts' : ℕ) : Type 0 where
-  ends : Ends hash command files before now answer held held' puts puts' → IsEnd hash command files before now answer held held' puts puts'
-  fails : Fails command files before now answer held held' puts puts' → IsEnd hash command files before now answer held held' puts puts'
-  wants : Wants before now answer held held' puts puts' → IsEnd hash command files before now answer held held' puts puts'
+pub record IsUnput (status : ℕ) (s : Sent) : Type 0 where
+  pub answer_is : s.answer ≡ status
+  pub unput : s.held_after ≡ s.held_before
+  pub writes : s.faults_after ≡ s.faults_before
 
 -- what a stop leaves: the line of a refusal was put, or nothing was
-abbrev pub AreStopped : Stop → ℕ → Option (List ℕ) → Option (List ℕ) → ℕ → ℕ → Type 0
-AreStopped (Refused r) answer held held' puts puts' =
-    Tried (refusal_status r) (refusal_line r) answer held held' puts puts' ⊎ IsWant answer held held' puts puts'
-AreStopped Unread answer held held' puts puts' = IsUnput answer held held' puts puts'
-AreStopped Memory answer held held' puts puts' = IsWant answer held held' puts puts'
+abbrev pub AreStopped : Stop → Sent → Type 0
+AreStopped (Refused r) s = Tried (refusal_status r) (refusal_line r) s ⊎ IsUnput 6 s
+AreStopped Unread s = IsUnput 4 s
+AreStopped Memory s = IsUnput 6 s
+
+-- how a command ends: what it found was tried to be put, a file that it wants could not be read, or memory was wanting
+pub data IsEndAfter (command : Command) (call : Call) : Type 0 where
+  ends : (found : Finding) → IsFoundAfter (MayHold call.files) command [] found → AreKept call.unread_before call.unread_after → Tried (status_of found) (bytes_of call.hash found) call.sent → IsEndAfter command call
+  fails : IsUnreadAfter (MayHold call.files) command [] call.unread_before call.unread_after → HaveNotFallen call.unread_before call.unread_after → IsUnput 4 call.sent → IsEndAfter command call
+  wants : AreKept call.unread_before call.unread_after → IsUnput 6 call.sent → IsEndAfter command call
+
+-- how a call ends: its words are of no form, or as their command does
+pub data IsEnd (words : List (List ℕ)) (call : Call) : Type 0 where
+  no_command : command_of words ≡ None → AreKept call.unread_before call.unread_after → Tried 2 words_line call.sent → IsEnd words call
+  some_command : (command : Command) → command_of words ≡ Some command → IsEndAfter command call → IsEnd words call

@@ -1,12 +1,29 @@
-//! Laws of the accumulator's pipeline.
-ghost use Rattle.std.specs.Prelude.{◌≡◌, List, ◌++◌};
-ghost use Rattle.dom_shell.specs.Accumulator.{Entry, drain, emitted, packets_of, serial_entries, serial_packets, serial_state, state_after};
+//! What holds of every call.
 
-/// Over every list of entries and a drain of four idle cycles, the pipeline is the program run serially: the packets
-/// that leave and the state word at the end are those of one packet after another, and what enters in cycle t leaves in
-/// cycle t + 4.
-pub fn pipe_is_serial()
-    ensures packets { (entries : List Entry) → packets_of (emitted (entries ++ drain)) ≡ serial_packets (packets_of entries) }
-    ensures state { (entries : List Entry) → state_after (entries ++ drain) ≡ serial_state (packets_of entries) }
-    ensures cycles { (entries : List Entry) → emitted (entries ++ drain) ≡ drain ++ serial_entries entries }
+ghost use Rattle.std.specs.Prelude.{◌≡◌, ◌≢◌, ℕ, List, Option};
+ghost use Rattle.dom_words.specs.State.{Hash};
+ghost use Rattle.dom_shell.specs.Call.{IsResult};
+
+use crate::call::domino;
+use dom_io::{CleanShelf, CleanSink};
+use dom_words::HashUnits;
+use std::alloc::Global;
+
+/// Words and told files have one status and one text.
+pub fn one_result()
+    ensures { (hash : Hash) (files : List ℕ → Option (List ℕ)) (words : List (List ℕ)) (status other : ℕ) (bytes others : List ℕ) → IsResult hash words files status bytes → IsResult hash words files other others → (status ≡ other) × (bytes ≡ others) }
 {}
+
+/// A call over files and a sink in memory for which no faults are planned has no fault of reading and none of writing.
+pub fn call_without_faults<H: HashUnits>(
+    alloc: Global,
+    words: &[String],
+    shelf: &mut CleanShelf,
+    sink: &mut CleanSink,
+    hash: &H,
+) -> u8
+    ensures reads { result ≢ 4 }
+    ensures writes { result ≢ 5 }
+{
+    domino(alloc, words, shelf, sink, hash)
+}

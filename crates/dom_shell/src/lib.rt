@@ -2,20 +2,8 @@
 #![tactic(auto)]
 
 mod call;
-mod clocking;
-mod command;
 mod commands;
-mod first_form;
+mod ending;
 pub mod laws;
-mod machine;
-mod prepare;
-mod prepare_serial;
-mod reading;
-mod refusals;
-mod report;
-mod serial_report;
-mod source;
-#[cfg(test)]
-mod tests;
 
 pub use call::domino;

@@ -18,6 +18,11 @@ comma_joined (part ∷ parts) = part ++ after_commas parts
 abbrev pub line_of : List (List ℕ) → List ℕ
 line_of parts = comma_joined parts ++ 10 ∷ []
 
+-- parts, one after another
+abbrev pub joined : List (List ℕ) → List ℕ
+joined [] = []
+joined (part ∷ parts) = part ++ joined parts
+
 -- a word, in signed decimals
 abbrev pub word_text : ℕ → List ℕ
 word_text word = signed_decimal (signed_of word)

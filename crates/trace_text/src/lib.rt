@@ -1,6 +1,7 @@
 //! Packet traces, and the lines of reports.
 #![tactic(auto)]
 
+pub mod laws;
 mod lines;
 mod trace;
 

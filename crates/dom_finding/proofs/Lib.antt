@@ -1,0 +1,5 @@
+pub mod Found
+pub mod OneFinding
+pub mod Pieces
+pub mod Stopped
+pub mod Told

@@ -1,0 +1,99 @@
+-- What a command finds in its files, one after another. `Holds` says which bytes the files hold.
+use Rattle.std.specs.Prelude.{◌≡◌, ⊤, ℕ, ◌<◌, ◌≤◌, Option, Some, None, IfSome, List, [], ◌∷◌, length, Result, Ok, Err}
+use Rattle.dom_io.specs.Causes.{Rose}
+use Rattle.trace_text.specs.Trace.{IsTraceOf, most_cycles}
+use Rattle.dom_ast.specs.Resolved.{CheckedForm}
+use Rattle.dom_compile.specs.Programs.{most_program}
+use Rattle.dom_compile.specs.Verdict.{IsProgram}
+use Rattle.dom_finding.specs.Command.{Command, FileNames, run, serial}
+use Rattle.dom_finding.specs.FirstForm.{FormNames, IsForm}
+use Rattle.dom_finding.specs.Refusals.{no_form, refused_program, refused_trace}
+use Rattle.dom_finding.specs.declared.refusals.Refusal.{Refusal}
+use Rattle.dom_finding.specs.declared.refusals.Refusal.TheVariants as refusal
+
+-- packets, each with its gap
+abbrev pub Packets : Type 0
+Packets = List (ℕ × List ℕ)
+
+-- what there is to do: clock the accumulator with these names over the packets, or run this program on them in turn
+pub data Job : Type 0 where
+  clocked : FormNames → Packets → Job
+  in_turn : CheckedForm → Packets → Job
+
+-- a command finds a job, or a refusal
+abbrev pub Finding : Type 0
+Finding = Result Job Refusal
+
+-- The files that are wanted.
+
+-- a file that is wanted: its name, the most bytes that it may have, and the refusal of a longer one
+pub record Ask : Type 0 where
+  pub name : List ℕ
+  pub most : ℕ
+  pub over : Refusal
+
+-- the most bytes that a trace may have
+abbrev pub most_trace : ℕ
+most_trace = 16777216
+
+abbrev pub program_file : List ℕ → Ask
+program_file name = record { name = name; most = most_program; over = refusal.ProgramLimit }
+
+-- a longer text is not of the form that `run` takes
+abbrev pub form_file : List ℕ → Ask
+form_file name = record { name = name; most = most_program; over = refusal.NotBuilt }
+
+abbrev pub trace_file : List ℕ → Ask
+trace_file name = record { name = name; most = most_trace; over = refusal.TraceLimit }
+
+-- What comes next.
+
+-- one more file, or what was found
+pub data Next : Type 0 where
+  ask : Ask → Next
+  found : Finding → Next
+
+-- where a text is an x, go x comes next, and where it has a fault, the refusal of that was found
+abbrev pub after_answer : {X F : Type 0} → (F → Refusal) → (X → Next) → Result X F → Next
+after_answer refuse go (Ok x) = go x
+after_answer refuse go (Err fault) = found (Err (refuse fault))
+
+-- the same where Is says what the text is
+abbrev pub Gives : {X F : Type 0} → (Result X F → Type 0) → (F → Refusal) → (X → Next) → Next → Type 0
+Gives {X} {F} Is refuse go next = (answer : Result X F) × Is answer × (next ≡ after_answer refuse go answer)
+
+-- after these texts, the newest first, each within its limit
+abbrev pub IsNext : Command → List (List ℕ) → Next → Type 0
+IsNext (run files) [] next = next ≡ ask (form_file files.program)
+IsNext (run files) (program ∷ []) next = Gives (IsForm program) no_form (λ n. ask (trace_file files.trace)) next
+IsNext (run files) (trace ∷ program ∷ []) next =
+    (n : FormNames) × IsForm program (Ok n) × Gives (IsTraceOf trace (n.added ∷ n.sum ∷ []) 4) refused_trace (λ packets. found (Ok (clocked n packets))) next
+IsNext (run files) (third ∷ trace ∷ program ∷ more) next = ⊥
+IsNext (serial files) [] next = next ≡ ask (program_file files.program)
+IsNext (serial files) (program ∷ []) next = Gives (IsProgram program) refused_program (λ c. ask (trace_file files.trace)) next
+IsNext (serial files) (trace ∷ program ∷ []) next =
+    (c : CheckedForm) × IsProgram program (Ok c) × Gives (IsTraceOf trace c.fields 0) refused_trace (λ packets. found (Ok (in_turn c packets))) next
+IsNext (serial files) (third ∷ trace ∷ program ∷ more) next = ⊥
+
+-- Which bytes a file holds.
+
+-- it is told that the file of this name holds these bytes
+abbrev pub IsTold : (List ℕ → Option (List ℕ)) → List ℕ → List ℕ → Type 0
+IsTold files name bytes = files name ≡ Some bytes
+
+-- the file of this name holds these bytes, if it is told what it holds
+abbrev pub MayHold : (List ℕ → Option (List ℕ)) → List ℕ → List ℕ → Type 0
+MayHold files name bytes = IfSome (files name) (λ told. told ≡ bytes)
+
+-- What is found after these texts, and which file could not be read.
+
+module _ (Holds : List ℕ → List ℕ → Type 0) (command : Command) where
+  pub data IsFoundAfter : List (List ℕ) → Finding → Type 0 where
+    ends : {texts : List (List ℕ)} {finding : Finding} → IsNext command texts (found finding) → IsFoundAfter texts finding
+    over : {texts : List (List ℕ)} {finding : Finding} (a : Ask) (text : List ℕ) → IsNext command texts (ask a) → Holds a.name text → a.most < length text → finding ≡ Err a.over → IsFoundAfter texts finding
+    reads : {texts : List (List ℕ)} {finding : Finding} (a : Ask) (text : List ℕ) → IsNext command texts (ask a) → Holds a.name text → length text ≤ a.most → IsFoundAfter (text ∷ texts) finding → IsFoundAfter texts finding
+
+  -- the count of a wanted file rose: of the next one, or of one behind a text within its limit
+  pub data IsUnreadAfter : List (List ℕ) → (List ℕ → ℕ) → (List ℕ → ℕ) → Type 0 where
+    here : {texts : List (List ℕ)} {before now : List ℕ → ℕ} (a : Ask) → IsNext command texts (ask a) → Rose (before a.name) (now a.name) → IsUnreadAfter texts before now
+    later : {texts : List (List ℕ)} {before now : List ℕ → ℕ} (a : Ask) (text : List ℕ) → IsNext command texts (ask a) → Holds a.name text → length text ≤ a.most → IsUnreadAfter (text ∷ texts) before now → IsUnreadAfter texts before now

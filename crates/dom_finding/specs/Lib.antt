@@ -1,0 +1,9 @@
+pub mod Command
+pub mod CommandForm
+pub mod Files
+pub mod Finding
+pub mod FirstForm
+pub mod FormNames
+pub mod Refusals
+pub mod Runs
+pub mod Stops

@@ -1,0 +1,15 @@
+//! What holds of every command and all texts.
+
+ghost use Rattle.std.specs.Prelude.{◌≡◌, ℕ, List, [], Option};
+ghost use Rattle.dom_finding.specs.Command.{Command};
+ghost use Rattle.dom_finding.specs.Finding.{Finding, IsFoundAfter, IsNext, IsTold, MayHold, Next};
+
+/// After some texts one thing comes next: one file, or one finding.
+pub fn one_next()
+    ensures { (command : Command) (texts : List (List ℕ)) (m n : Next) → IsNext command texts m → IsNext command texts n → m ≡ n }
+{}
+
+/// What a command finds in files that are told is all that it may find in them.
+pub fn one_finding()
+    ensures { (files : List ℕ → Option (List ℕ)) (command : Command) (f g : Finding) → IsFoundAfter (MayHold files) command [] f → IsFoundAfter (IsTold files) command [] g → f ≡ g }
+{}

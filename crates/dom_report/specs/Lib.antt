@@ -1,0 +1,5 @@
+pub mod Accumulator
+pub mod Clocking
+pub mod Report
+pub mod SerialReport
+pub mod Turns

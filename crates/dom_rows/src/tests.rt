@@ -1,0 +1,617 @@
+mod ends;
+mod lines;
+mod traces;
+
+use dom_io::{MemShelf, MemSink};
+use dom_shell::domino;
+use dom_words::{FileList, FnvUnits, Memory, Name, Seq};
+use std::alloc::Global;
+use std::test::Fail;
+
+const ROOM: usize = 4096;
+
+const PROGRAM: &str = "struct Packet { int x; int sum; };
+int total;
+void acc(struct Packet pkt) { total = total + pkt.x; pkt.sum = total; }
+";
+
+const TRACE: &str = "gap,x\n0,5\n2,7\n";
+
+// A call's status, and what its sink holds then.
+#[derive(Drop)]
+struct Given {
+    status: u8,
+    held: Vec<u8>,
+}
+
+fn bytes_of(alloc: Global, text: &str) -> Result<Seq<u8>, Memory> {
+    let mut bytes = Seq::new(alloc);
+    for byte in text.as_bytes() {
+        bytes.push(*byte)?;
+    }
+    Ok(bytes)
+}
+
+// The files `p` and `t`.
+fn files_of(alloc: Global, program: &str, trace: &str) -> Result<FileList, Memory> {
+    let mut files = Seq::new(alloc);
+    files.push((Name::of(alloc, b"p")?, bytes_of(alloc, program)?))?;
+    files.push((Name::of(alloc, b"t")?, bytes_of(alloc, trace)?))?;
+    Ok(files)
+}
+
+fn words_of(alloc: Global, line: &str) -> Result<Vec<String>, Memory> {
+    let mut words = Vec::new(alloc);
+    for word in line.split_whitespace() {
+        let word = String::from_str(alloc, word).map_err(|_| Memory)?;
+        words.push(word).map_err(|_| Memory)?;
+    }
+    Ok(words)
+}
+
+// What the words give over these files, where these reads and puts fail.
+fn answer(
+    alloc: Global,
+    line: &str,
+    files: FileList,
+    reads: Vec<u64>,
+    puts: Vec<(u64, usize)>,
+) -> Result<Given, Memory> {
+    let words = words_of(alloc, line)?;
+    let mut shelf = MemShelf::new(alloc, files, reads);
+    let mut sink = MemSink::new(alloc, ROOM, puts)?;
+    let status = domino(alloc, words.as_slice(), &mut shelf, &mut sink, &FnvUnits);
+    let held = Vec::from_slice(alloc, sink.held()).map_err(|_| Memory)?;
+    Ok(Given { status, held })
+}
+
+// What a command gives over a program and a trace, where nothing fails.
+fn answered(alloc: Global, command: &str, program: &str, trace: &str) -> Result<Given, Memory> {
+    let files = files_of(alloc, program, trace)?;
+    answer(alloc, command, files, Vec::new(alloc), Vec::new(alloc))
+}
+
+fn run(alloc: Global, program: &str, trace: &str) -> Result<Given, Memory> {
+    answered(alloc, "run raw-small p t", program, trace)
+}
+
+fn serial(alloc: Global, program: &str, trace: &str) -> Result<Given, Memory> {
+    answered(alloc, "serial p t", program, trace)
+}
+
+// The parts, one after another, the second of them so many times.
+fn text_of(
+    alloc: Global,
+    first: &str,
+    repeated: &str,
+    last: &str,
+    count: usize,
+) -> Result<String, Memory> {
+    let mut text = String::from_str(alloc, first).map_err(|_| Memory)?;
+    for _k in 0..count {
+        text.push_str(repeated).map_err(|_| Memory)?;
+    }
+    text.push_str(last).map_err(|_| Memory)?;
+    Ok(text)
+}
+
+#[test]
+fn reports(rt: HostRuntime) -> Result<(), Fail> {
+    let rows = [
+        (
+            TRACE,
+            "cycle,x,sum\n4,5,5\n7,7,12\nstate,total,0,12\nplace,total,1\ndone,2,8\n",
+        ),
+        ("gap,x\n", "cycle,x,sum\nplace,total,1\ndone,0,4\n"),
+        ("gap\n1\n", "cycle,x,sum\n5,0,0\nplace,total,1\ndone,1,6\n"),
+        (
+            "gap,sum,x\n0,9,4294967295",
+            "cycle,x,sum\n4,-1,-1\nstate,total,0,-1\nplace,total,1\ndone,1,5\n",
+        ),
+        (
+            "gap,x\n0,2147483647\r\n\n0,\"1\"\n",
+            "cycle,x,sum\n4,2147483647,2147483647\n5,1,-2147483648\nstate,total,0,-2147483648\nplace,total,1\ndone,2,6\n",
+        ),
+        (
+            "gap,x\n1999995,1\n",
+            "cycle,x,sum\n1999999,1,1\nstate,total,0,1\nplace,total,1\ndone,1,2000000\n",
+        ),
+    ];
+    for (trace, report) in rows {
+        let given = run(rt.alloc(), PROGRAM, trace)?;
+        assert_eq!(rt; given.status, 0);
+        assert_eq!(rt; given.held.as_slice(), report.as_bytes());
+    }
+    Ok(())
+}
+
+#[test]
+fn other_names(rt: HostRuntime) -> Result<(), Fail> {
+    let program = "struct Packet { int hash1; int _b2; };
+int hash1;
+void acc(struct Packet pkt) { hash1 = hash1 + pkt.hash1; pkt._b2 = hash1; }
+";
+    let given = run(rt.alloc(), program, TRACE)?;
+    assert_eq!(rt; given.status, 1);
+    let program = "struct Packet { int hash1; int _b2; };
+int hash5;
+void acc(struct Packet pkt) { hash5 = hash5 + pkt.hash1; pkt._b2 = hash5; }
+";
+    let given = run(rt.alloc(), program, "gap,hash1\n0,5\n")?;
+    let report = "cycle,hash1,_b2\n4,5,5\nstate,hash5,0,5\nplace,hash5,1\ndone,1,5\n";
+    assert_eq!(rt; given.status, 0);
+    assert_eq!(rt; given.held.as_slice(), report.as_bytes());
+    Ok(())
+}
+
+#[test]
+fn refused_traces(rt: HostRuntime) -> Result<(), Fail> {
+    let rows = [
+        ("", "refused,trace,no-header\n"),
+        ("\n\n", "refused,trace,no-header\n"),
+        ("ga", "refused,trace,unknown-column,1\n"),
+        ("gap,y\n", "refused,trace,unknown-column,2\n"),
+        ("gap,x,sum,x\n", "refused,trace,column-twice,4\n"),
+        ("gap,x\n0\n", "refused,trace,row-length,1\n"),
+        ("gap,x\n0,1\n0,1,1\n", "refused,trace,row-length,2\n"),
+        ("gap,x\n0,\n", "refused,trace,value,1,2\n"),
+        ("gap,x\n\n0,1\n-1,5\n", "refused,trace,value,2,1\n"),
+        ("gap,x\n0,4294967296\n", "refused,trace,value,1,2\n"),
+    ];
+    for (trace, line) in rows {
+        let clocked = run(rt.alloc(), PROGRAM, trace)?;
+        assert_eq!(rt; clocked.status, 3);
+        assert_eq!(rt; clocked.held.as_slice(), line.as_bytes());
+        let in_turn = serial(rt.alloc(), PROGRAM, trace)?;
+        assert_eq!(rt; in_turn.status, 3);
+        assert_eq!(rt; in_turn.held.as_slice(), line.as_bytes());
+    }
+    let clocked = run(rt.alloc(), PROGRAM, "gap,x\n1999996,1\n")?;
+    assert_eq!(rt;
+        clocked.held.as_slice(),
+        b"refused,trace,cycles,2000001\n".as_slice()
+    );
+    let in_turn = serial(rt.alloc(), PROGRAM, "gap,x\n2000000,1\n")?;
+    assert_eq!(rt;
+        in_turn.held.as_slice(),
+        b"refused,trace,cycles,2000001\n".as_slice()
+    );
+    Ok(())
+}
+
+#[test]
+fn refused_words(rt: HostRuntime) -> Result<(), Fail> {
+    let lines = [
+        "",
+        "run",
+        "run raw-tiny p t",
+        "run raw-small p",
+        "serial p",
+        "serial p t u",
+        "serial raw-small p t",
+        "run raw-small p t u",
+    ];
+    for line in lines {
+        let files = files_of(rt.alloc(), PROGRAM, TRACE)?;
+        let none = Vec::new(rt.alloc());
+        let given = answer(rt.alloc(), line, files, none, Vec::new(rt.alloc()))?;
+        assert_eq!(rt; given.status, 2);
+        assert_eq!(rt; given.held.as_slice(), b"refused,words\n".as_slice());
+    }
+    Ok(())
+}
+
+#[test]
+fn third_put_fails(rt: HostRuntime) -> Result<(), Fail> {
+    let rows = [
+        ("run raw-small p t", "cycle,x,sum\n4,5,5\n7,"),
+        ("serial p t", "packet,x,sum\n1,5,5\n2,"),
+    ];
+    for (command, held) in rows {
+        let files = files_of(rt.alloc(), PROGRAM, TRACE)?;
+        let failing = vec![in rt.alloc(); (3, 2)]?;
+        let given = answer(rt.alloc(), command, files, Vec::new(rt.alloc()), failing)?;
+        assert_eq!(rt; given.status, 5);
+        assert_eq!(rt; given.held.as_slice(), held.as_bytes());
+    }
+    Ok(())
+}
+
+// Each file is read once, in order: where no further read can succeed, the status is the same.
+#[test]
+fn reads(rt: HostRuntime) -> Result<(), Fail> {
+    let rows = [
+        ("run raw-small p t", PROGRAM, TRACE, 2, 0),
+        ("serial p t", PROGRAM, TRACE, 2, 0),
+        ("run raw-small p t", PROGRAM, "no trace", 2, 3),
+        ("serial p t", PROGRAM, "no trace", 2, 3),
+        ("run raw-small p t", "no program", TRACE, 1, 1),
+        ("serial p t", "no program", TRACE, 1, 1),
+        ("serial p", PROGRAM, TRACE, 0, 2),
+    ];
+    for (command, program, trace, reads, status) in rows {
+        let files = files_of(rt.alloc(), program, trace)?;
+        let mut failing = Vec::new(rt.alloc());
+        for more in 1..9 {
+            failing.push(u64::saturating_add(reads, more))?;
+        }
+        let given = answer(rt.alloc(), command, files, failing, Vec::new(rt.alloc()))?;
+        assert_eq!(rt; given.status, status);
+    }
+    Ok(())
+}
+
+// Nothing is read after a read that failed: where all others succeed, the status is 4.
+#[test]
+fn failed_reads(rt: HostRuntime) -> Result<(), Fail> {
+    for command in ["run raw-small p t", "serial p t"] {
+        for number in [1, 2] {
+            let files = files_of(rt.alloc(), PROGRAM, TRACE)?;
+            let failing = vec![in rt.alloc(); number]?;
+            let given = answer(rt.alloc(), command, files, failing, Vec::new(rt.alloc()))?;
+            assert_eq!(rt; given.status, 4);
+            assert_eq!(rt; given.held.as_slice(), b"".as_slice());
+        }
+    }
+    Ok(())
+}
+
+// One line is one put: where put k takes nothing and fails, the lines before it have been put.
+#[test]
+fn puts(rt: HostRuntime) -> Result<(), Fail> {
+    let rows = [
+        (
+            "run raw-small p t",
+            "cycle,x,sum\n4,5,5\n7,7,12\nstate,total,0,12\nplace,total,1\ndone,2,8\n",
+        ),
+        (
+            "serial p t",
+            "packet,x,sum\n1,5,5\n2,7,12\nstate,total,0,12\ndone,2\n",
+        ),
+    ];
+    for (command, report) in rows {
+        let mut before = String::new(rt.alloc());
+        let mut number = 0u64;
+        for line in report.lines() {
+            number = number.saturating_add(1);
+            let files = files_of(rt.alloc(), PROGRAM, TRACE)?;
+            let failing = vec![in rt.alloc(); (number, 0)]?;
+            let given = answer(rt.alloc(), command, files, Vec::new(rt.alloc()), failing)?;
+            assert_eq!(rt; given.status, 5);
+            assert_eq!(rt; given.held.as_slice(), before.as_bytes());
+            before.push_str(line)?;
+            before.push_str("\n")?;
+        }
+        let files = files_of(rt.alloc(), PROGRAM, TRACE)?;
+        let failing = vec![in rt.alloc(); (number.saturating_add(1), 0)]?;
+        let given = answer(rt.alloc(), command, files, Vec::new(rt.alloc()), failing)?;
+        assert_eq!(rt; given.status, 0);
+        assert_eq!(rt; given.held.as_slice(), before.as_bytes());
+    }
+    Ok(())
+}
+
+// What stands before a body, and before the condition of a guard: 78 and 80 bytes.
+const BODY: &str = "#define K 1 struct P { int x; int y; }; int s; int a[8]; void f(struct P p) { ";
+
+const GUARD: &str =
+    "#define K 1 struct P { int x; int y; }; int s; int a[8]; void f(struct P p) if (";
+
+// 64 fields, and 32 globals.
+const FIELDS: &str =
+    "struct P { int f0; int f1; int f2; int f3; int f4; int f5; int f6; int f7; int f8; int f9; int f10; int f11; int f12; int f13; int f14; int f15; int f16; int f17; int f18; int f19; int f20; int f21; int f22; int f23; int f24; int f25; int f26; int f27; int f28; int f29; int f30; int f31; int f32; int f33; int f34; int f35; int f36; int f37; int f38; int f39; int f40; int f41; int f42; int f43; int f44; int f45; int f46; int f47; int f48; int f49; int f50; int f51; int f52; int f53; int f54; int f55; int f56; int f57; int f58; int f59; int f60; int f61; int f62; int f63; ";
+
+const GLOBALS: &str =
+    "struct P { int x; }; int g0; int g1; int g2; int g3; int g4; int g5; int g6; int g7; int g8; int g9; int g10; int g11; int g12; int g13; int g14; int g15; int g16; int g17; int g18; int g19; int g20; int g21; int g22; int g23; int g24; int g25; int g26; int g27; int g28; int g29; int g30; int g31; ";
+
+#[test]
+fn serial_reports(rt: HostRuntime) -> Result<(), Fail> {
+    let rows = [
+        (
+            PROGRAM,
+            TRACE,
+            "packet,x,sum\n1,5,5\n2,7,12\nstate,total,0,12\ndone,2\n",
+        ),
+        (PROGRAM, "gap,x\n", "packet,x,sum\ndone,0\n"),
+        (PROGRAM, "gap\n1999999\n", "packet,x,sum\n1,0,0\ndone,1\n"),
+        (
+            "struct P { int k; int x; };
+int a;
+int b;
+void one(struct P p) if (p.k == 0) { a = a + p.x; p.k = 1; }
+void two(struct P p) if (p.k == 0) { b = b + 1; }
+",
+            "gap,k,x\n0,0,5\n0,2,7\n",
+            "packet,k,x\n1,1,5\n2,2,7\nstate,a,0,5\nstate,b,0,1\ndone,2\n",
+        ),
+        (
+            "struct P { int x; }; int s; void f(struct P pkt) { pkt.x = 2 + 3 * 4 << 1 | 1 == 1; }",
+            "gap\n0\n",
+            "packet,x\n1,29\ndone,1\n",
+        ),
+        (
+            "struct P { int x; }; int s; void f(struct P pkt) { pkt.x = 10 - 4 - 3; }",
+            "gap\n0\n",
+            "packet,x\n1,3\ndone,1\n",
+        ),
+        (
+            "struct P { int x; }; int s; void f(struct P pkt) { pkt.x = hash1(pkt.x); }",
+            "gap\n0\n",
+            "packet,x\n1,303091727\ndone,1\n",
+        ),
+        (
+            "struct P { int i; int x; }; int a[3] = -2; int b[1]; void f(struct P p) { a[p.i] = 0; } void g(struct P p) { p.x = p.x * 2; b[0] = p.x; }",
+            "gap,i,x\n0,-2,-2\n",
+            "packet,i,x\n1,-2,-4\nstate,a,0,-2\nstate,a,1,-2\nstate,b,0,-4\ndone,1\n",
+        ),
+        (
+            "#define K 1 struct P { int x; }; int a[8]; void f(struct P p) { a[K] = a[1] + 1; a[1] = a[0x1]; }",
+            "gap\n0\n",
+            "packet,x\n1,0\nstate,a,1,1\ndone,1\n",
+        ),
+        (
+            "struct P { int x; }; int a[8]; void f(struct P p) { a[-1] = p.x; }",
+            "gap,x\n0,3\n",
+            "packet,x\n1,3\nstate,a,7,3\ndone,1\n",
+        ),
+    ];
+    for (program, trace, report) in rows {
+        let given = serial(rt.alloc(), program, trace)?;
+        assert_eq!(rt; given.status, 0);
+        assert_eq!(rt; given.held.as_slice(), report.as_bytes());
+    }
+    Ok(())
+}
+
+#[test]
+fn refused_programs(rt: HostRuntime) -> Result<(), Fail> {
+    let rows = [
+        ("", "@", "refused,lex,bad-byte,0\n"),
+        (
+            "",
+            "struct P { int x; }; /*",
+            "refused,lex,open-comment,21\n",
+        ),
+        (BODY, "s = 4294967296; }", "refused,lex,big-literal,82\n"),
+        ("", "", "refused,parse,unexpected,0\n"),
+        (BODY, "while (p.x) { } }", "refused,parse,forbidden,78\n"),
+        (BODY, "s = 1 }", "refused,parse,unexpected,84\n"),
+        (BODY, "s = q; @", "refused,lex,bad-byte,85\n"),
+        (BODY, "s = q; s", "refused,parse,unexpected,86\n"),
+        (
+            "",
+            "struct P { int x; }; int s; int s; void f(struct P p) { }",
+            "refused,check,twice,32\n",
+        ),
+        (
+            "",
+            "#define s 1 #define s 1 struct P { int x; };  void f(struct P p) { }",
+            "refused,check,twice,20\n",
+        ),
+        (
+            "",
+            "#define hash4h 1 struct P { int x; };  void f(struct P p) { }",
+            "refused,check,shape-of-name,8\n",
+        ),
+        (
+            "",
+            "struct P { int x; }; int hash1; void f(struct P p) { }",
+            "refused,check,shape-of-name,25\n",
+        ),
+        (
+            GLOBALS,
+            "int hash1; void f(struct P p) { }",
+            "refused,check,shape-of-name,303\n",
+        ),
+        (
+            GLOBALS,
+            "int g0; void f(struct P p) { }",
+            "refused,check,twice,303\n",
+        ),
+        (
+            GLOBALS,
+            "int g[q]; void f(struct P p) { }",
+            "refused,check,too-large-arrays,303\n",
+        ),
+        (
+            "",
+            "struct P { int x; int x; }; void f(struct P p) { }",
+            "refused,check,twice,22\n",
+        ),
+        (
+            FIELDS,
+            "int f0; }; void f(struct P p) { }",
+            "refused,check,twice,581\n",
+        ),
+        (
+            FIELDS,
+            "int f; }; void f(struct P p) { }",
+            "refused,check,too-large-fields,581\n",
+        ),
+        (
+            "",
+            "struct P { int x; }; int s[0] = q; void f(struct P p) { }",
+            "refused,check,too-large-length,25\n",
+        ),
+        (
+            "",
+            "struct P { int x; }; int s[1048577]; void f(struct P p) { }",
+            "refused,check,too-large-length,25\n",
+        ),
+        (
+            "",
+            "#define N -1 struct P { int x; }; int s[N]; void f(struct P p) { }",
+            "refused,check,too-large-length,38\n",
+        ),
+        (
+            "",
+            "struct P { int x; }; int s[1048576]; int t = q; void f(struct P p) { }",
+            "refused,check,too-large-words,41\n",
+        ),
+        (
+            "",
+            "struct P { int x; }; int s[q] = r; void f(struct P p) { }",
+            "refused,check,unknown-name,27\n",
+        ),
+        (
+            "",
+            "struct P { int x; }; int s[hash1]; void f(struct P p) { }",
+            "refused,check,unknown-name,27\n",
+        ),
+        (
+            "",
+            "struct P { int x; }; int s[s]; void f(struct P p) { }",
+            "refused,check,shape-of-name,27\n",
+        ),
+        (
+            "",
+            "struct P { int x; }; int s; int t[s] = q; void f(struct P p) { }",
+            "refused,check,shape-of-name,34\n",
+        ),
+        (
+            "",
+            "struct P { int x; }; int s = q; void f(struct P p) { }",
+            "refused,check,unknown-name,29\n",
+        ),
+        (
+            "",
+            "struct P { int x; }; int s = hash1; void f(struct P p) { }",
+            "refused,check,unknown-name,29\n",
+        ),
+        (
+            "",
+            "struct P { int x; }; int s = {s}; void f(struct P p) { }",
+            "refused,check,shape-of-name,30\n",
+        ),
+        (
+            "",
+            "struct P { int x; }; int p; void f(struct Q p) { }",
+            "refused,check,unknown-name,42\n",
+        ),
+        (
+            "",
+            "struct P { int x; }; int p; void f(struct P p) { }",
+            "refused,check,twice,44\n",
+        ),
+        (
+            "",
+            "struct P { int x; }; void f(struct P hash1) { }",
+            "refused,check,shape-of-name,37\n",
+        ),
+        (
+            "",
+            "struct P { int x; }; void f(struct P p) { } void g(struct P p) { p.y = 1; }",
+            "refused,check,unknown-name,67\n",
+        ),
+        (
+            "",
+            "struct P { int x; }; void f(struct P p) { } void g(struct P q) { q.x = p.x; }",
+            "refused,check,unknown-name,71\n",
+        ),
+        (BODY, "s = q.x; }", "refused,check,unknown-name,82\n"),
+        (BODY, "s = hash1.x; }", "refused,check,unknown-name,82\n"),
+        (BODY, "s = s.z; }", "refused,check,shape-of-name,82\n"),
+        (BODY, "s = p.z; }", "refused,check,unknown-name,84\n"),
+        (BODY, "s = hash1; }", "refused,check,shape-of-name,82\n"),
+        (BODY, "s = a; }", "refused,check,shape-of-name,82\n"),
+        (BODY, "s = p; }", "refused,check,shape-of-name,82\n"),
+        (BODY, "s = q; }", "refused,check,unknown-name,82\n"),
+        (BODY, "r = q; }", "refused,check,unknown-name,82\n"),
+        (BODY, "q = 1; }", "refused,check,unknown-name,78\n"),
+        (BODY, "K = 1; }", "refused,check,shape-of-name,78\n"),
+        (BODY, "a = 1; }", "refused,check,shape-of-name,78\n"),
+        (BODY, "p = 1; }", "refused,check,shape-of-name,78\n"),
+        (BODY, "hash1 = 1; }", "refused,check,shape-of-name,78\n"),
+        (BODY, "q.x = 1; }", "refused,check,unknown-name,78\n"),
+        (BODY, "s = q[r]; }", "refused,check,unknown-name,82\n"),
+        (BODY, "s = s[q]; }", "refused,check,shape-of-name,82\n"),
+        (BODY, "s = K[0]; }", "refused,check,shape-of-name,82\n"),
+        (BODY, "s = hash1[0]; }", "refused,check,shape-of-name,82\n"),
+        (BODY, "hash1[0] = 1; }", "refused,check,shape-of-name,78\n"),
+        (BODY, "s = a[q]; }", "refused,check,unknown-name,84\n"),
+        (BODY, "s = a[hash1]; }", "refused,check,unknown-name,84\n"),
+        (BODY, "s = a[s]; }", "refused,check,bad-index,84\n"),
+        (BODY, "s = a[p]; }", "refused,check,bad-index,84\n"),
+        (BODY, "s = a[q.x]; }", "refused,check,unknown-name,84\n"),
+        (BODY, "s = a[s.x]; }", "refused,check,shape-of-name,84\n"),
+        (BODY, "s = a[p.z]; }", "refused,check,unknown-name,86\n"),
+        (
+            BODY,
+            "s = a[((p.x) + 1)]; }",
+            "refused,check,bad-index,86\n",
+        ),
+        (BODY, "s = a[-(1)]; }", "refused,check,bad-index,84\n"),
+        (BODY, "s = a[hash1(1)]; }", "refused,check,bad-index,84\n"),
+        (
+            BODY,
+            "s = a[0]; s = a[1 + 1]; }",
+            "refused,check,bad-index,94\n",
+        ),
+        (BODY, "s = a[0] + a[8]; }", "refused,check,two-indexes,89\n"),
+        (
+            BODY,
+            "a[p.x] = 1; if (a[p.x]) { } else { a[p.y] = 2; } }",
+            "refused,check,two-indexes,113\n",
+        ),
+        (
+            BODY,
+            "a[K] = a[1]; } void g(struct P q) { a[q.x] = 2; }",
+            "refused,check,two-indexes,114\n",
+        ),
+        (BODY, "s = q(r); }", "refused,check,unknown-name,82\n"),
+        (BODY, "s = s(q); }", "refused,check,shape-of-name,82\n"),
+        (BODY, "s = p(); }", "refused,check,shape-of-name,82\n"),
+        (BODY, "s = hash2(q); }", "refused,check,hash-args,82\n"),
+        (BODY, "s = hash1(); }", "refused,check,hash-args,82\n"),
+        (BODY, "s = hash1(q); }", "refused,check,unknown-name,88\n"),
+        (
+            BODY,
+            "p.x = a[p.x]; }",
+            "refused,check,index-assigned-later,78\n",
+        ),
+        (
+            BODY,
+            "a[p.x] = 1; p.z = 1; }",
+            "refused,check,unknown-name,92\n",
+        ),
+        (
+            BODY,
+            "a[p.x] = 1; } void g(struct P q) { q.y = 1; q.x = 1; }",
+            "refused,check,index-assigned-later,122\n",
+        ),
+        (GUARD, "s) { }", "refused,check,shape-of-name,80\n"),
+        (GUARD, "a[q]) { }", "refused,check,shape-of-name,80\n"),
+        (GUARD, "q[s]) { }", "refused,check,unknown-name,80\n"),
+        (
+            GUARD,
+            "p.x + q) { r = 1; }",
+            "refused,check,unknown-name,86\n",
+        ),
+        (GUARD, "hash1(a)) { }", "refused,check,shape-of-name,86\n"),
+    ];
+    for (head, rest, line) in rows {
+        let program = text_of(rt.alloc(), head, "", rest, 0)?;
+        let given = serial(rt.alloc(), program.as_str(), "no trace")?;
+        assert_eq!(rt; given.status, 1, "for {rest}");
+        assert_eq!(rt; given.held.as_slice(), line.as_bytes(), "for {rest}");
+    }
+    Ok(())
+}
+
+#[test]
+fn long_programs(rt: HostRuntime) -> Result<(), Fail> {
+    let value = "struct P { int x; }; int s; void f(struct P pkt) { s = ";
+    let rows = [
+        ("", " ", "", 65536, "refused,parse,unexpected,65536\n"),
+        ("", " ", "", 65537, "refused,limit,program\n"),
+        ("", ";", "", 16385, "refused,lex,too-many-tokens,16384\n"),
+        (value, "(", "1", 64, "refused,parse,too-nested,118\n"),
+    ];
+    for (first, repeated, last, count, line) in rows {
+        let program = text_of(rt.alloc(), first, repeated, last, count)?;
+        let given = serial(rt.alloc(), program.as_str(), "no trace")?;
+        assert_eq!(rt; given.status, 1);
+        assert_eq!(rt; given.held.as_slice(), line.as_bytes());
+    }
+    Ok(())
+}
