@@ -1,0 +1,11 @@
+pub mod Lists
+pub mod Linked
+pub mod Cut
+pub mod Held
+pub mod Containers
+pub mod Answer
+pub mod Extended
+pub mod Flat
+pub mod ByRows
+pub mod Leveled
+pub mod Laws

@@ -1,0 +1,131 @@
+ghost use Rattle.std.specs.Prelude.{◌≡◌, ◌+◌, ◌<◌, IfOk, [], ◌∷◌, length, map};
+ghost use Rattle.std.specs.List.{All, filter, list_any, range_with_len};
+ghost use Rattle.codelets.specs.Cut.{line_uses, lines_by_number, used_in, uses_codelet};
+ghost use Rattle.codelets.specs.ByRows.{cut_by, linked_by, use_lists};
+ghost use Rattle.codelets.specs.Linked.{twins_of};
+ghost use Rattle.codelets.specs.Lists.{meet};
+
+use crate::groups::{class_with, is_in, is_least, value_of};
+use crate::table::{Table, number_uses};
+use dep_graph::Graph;
+use dom_flat::Flat;
+use dom_words::{Memory, Numbers, Seq};
+use std::alloc::Global;
+
+/// Codelets, each as its statement numbers.
+pub type Pieces = Seq<Numbers>;
+
+// A list of one number.
+fn single(alloc: Global, number: u32) -> Result<Numbers, Memory>
+    ensures { IfOk result (λ c. c ≡ number ∷ []) }
+{
+    let mut piece = Seq::new(alloc);
+    piece.push(number)?;
+    Ok(piece)
+}
+
+/// The codelets by their least statement number: the classes, then the twins.
+pub fn by_number(
+    alloc: Global,
+    flat: &Flat,
+    graph: &Graph,
+    numbers: &[u32],
+    twins: &[u32],
+) -> Result<Pieces, Memory>
+    requires numbers { numbers.now ≡ range_with_len 0 (length flat.now.lines) }
+    requires twins { twins.now ≡ twins_of (linked_by flat.now graph.now) }
+    ensures { IfOk result (λ all. all ≡ (cut_by flat.now graph.now).all) }
+{
+    let mut pieces = Seq::new(alloc);
+    for a in numbers {
+        if is_least(flat, graph, numbers, *a) {
+            let class = class_with(alloc, flat, graph, numbers, *a)?;
+            pieces.push(class)?;
+        }
+    }
+    let count = flat.lines.len() as u32;
+    for t in twins {
+        let piece = single(alloc, count + *t)?;
+        pieces.push(piece)?;
+    }
+    Ok(pieces)
+}
+
+/// Whether a number is in both lists.
+pub fn meets(c: &[u32], d: &[u32]) -> bool
+    ensures { result ≡ meet c.now d.now }
+{
+    c.iter().any(|number| is_in(d, *number))
+}
+
+// Whether the statement with a number uses a value that a codelet makes.
+fn number_uses_any(flat: &Flat, graph: &Graph, table: &Table, d: &[u32], number: u32) -> bool
+    requires table { table.now ≡ lines_by_number (cut_by flat.now graph.now) }
+    requires small { All (λ a. a < 1024) d.now }
+    ensures { result ≡ list_any (λ a. line_uses (cut_by flat.now graph.now) (length flat.now.fields + a) number) d.now }
+{
+    d.iter().any(|a| number_uses(flat, graph, table, value_of(flat, *a), number))
+}
+
+// Whether a statement of a codelet uses a value that another makes.
+fn any_uses_any(flat: &Flat, graph: &Graph, table: &Table, c: &[u32], d: &[u32]) -> bool
+    requires table { table.now ≡ lines_by_number (cut_by flat.now graph.now) }
+    requires small { All (λ a. a < 1024) d.now }
+    ensures { result ≡ list_any (λ b. list_any (λ a. line_uses (cut_by flat.now graph.now) (length flat.now.fields + a) b) d.now) c.now }
+{
+    c.iter().any(|b| number_uses_any(flat, graph, table, d, *b))
+}
+
+/// Whether a codelet uses another.
+pub fn uses_piece(flat: &Flat, graph: &Graph, table: &Table, c: &[u32], d: &[u32]) -> bool
+    requires table { table.now ≡ lines_by_number (cut_by flat.now graph.now) }
+    requires small { All (λ a. a < 1024) d.now }
+    ensures { result ≡ uses_codelet (cut_by flat.now graph.now) c.now d.now }
+{
+    any_uses_any(flat, graph, table, c, d) && !meets(c, d)
+}
+
+/// The places of the codelets that a codelet uses in a list of codelets.
+pub fn used_places(
+    alloc: Global,
+    flat: &Flat,
+    graph: &Graph,
+    table: &Table,
+    list: &Pieces,
+    c: &[u32],
+) -> Result<Numbers, Memory>
+    requires table { table.now ≡ lines_by_number (cut_by flat.now graph.now) }
+    requires small { All (λ d. All (λ a. a < 1024) d) list.now }
+    requires few { length list.now < 4294967296 }
+    ensures { IfOk result (λ ks. ks ≡ used_in (cut_by flat.now graph.now) list.now c.now) }
+{
+    let mut places = Seq::new(alloc);
+    for k in 0..list.len() {
+        if uses_piece(flat, graph, table, c, list.get(k).as_slice()) {
+            places.push(k as u32)?;
+        }
+    }
+    Ok(places)
+}
+
+/// The places of the codelets that each codelet uses, by number.
+pub fn places_used(
+    alloc: Global,
+    flat: &Flat,
+    graph: &Graph,
+    table: &Table,
+    pieces: &Pieces,
+) -> Result<Pieces, Memory>
+    requires table { table.now ≡ lines_by_number (cut_by flat.now graph.now) }
+    requires small { All (λ d. All (λ a. a < 1024) d) pieces.now }
+    requires few { length pieces.now < 4294967296 }
+    requires pieces { pieces.now ≡ (cut_by flat.now graph.now).all }
+    ensures { IfOk result (λ lists. lists ≡ use_lists (cut_by flat.now graph.now)) }
+{
+    let mut lists = Seq::new(alloc);
+    for k in 0..pieces.len() {
+        let places = used_places(alloc, flat, graph, table, pieces, pieces.get(k).as_slice())?;
+        lists.push(places)?;
+    }
+    Ok(lists)
+}

@@ -1,0 +1,4 @@
+pub mod Warshall
+pub mod Joined
+pub mod Marked
+pub mod Through
