@@ -1,0 +1,12 @@
+pub mod ClassMeaning
+pub mod Early
+pub mod Filled
+pub mod Given
+pub mod Matched
+pub mod Named
+pub mod Places
+pub mod Right
+pub mod Says
+pub mod Shown
+pub mod Sound
+pub mod Steps
