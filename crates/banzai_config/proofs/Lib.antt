@@ -1,0 +1,11 @@
+pub mod SetLemmas
+pub mod Judging
+pub mod Walking
+pub mod Heads
+pub mod Broken
+pub mod Fits
+pub mod Lawful
+pub mod Apart
+pub mod Staged
+pub mod Placed
+pub mod TargetNames

@@ -1,0 +1,13 @@
+pub mod Action
+pub mod Checked
+pub mod Fitted
+pub mod Judged
+pub mod Legal
+pub mod Named
+pub mod Parts
+pub mod PartsCode
+pub mod Places
+pub mod Sets
+pub mod Stages
+pub mod Targets
+pub mod Walked

@@ -1,0 +1,10 @@
+pub mod Decimals
+pub mod Split
+pub mod Meant
+pub mod Says
+pub mod Whole
+pub mod TextLines
+pub mod OneFault
+pub mod TargetNames
+pub mod OneReading
+pub mod LegalTexts
