@@ -1,0 +1,11 @@
+pub mod AnyOrder
+pub mod Apart
+pub mod Commute
+pub mod Every
+pub mod InPlaceLemmas
+pub mod LegalOwns
+pub mod Moments
+pub mod Shares
+pub mod Store
+pub mod Through
+pub mod Touched
