@@ -1,5 +1,5 @@
-/* What the serial runs by hand share: a whole file in memory, numbers of a record, lines with one write(2) each, and the
-   shipped hash functions. They check only what they need to read a trace. */
+/* What the runs by hand share: a whole file in memory, numbers of a record, lines with one write(2) each, and the shipped
+   hash functions. They check only what they need to read a trace. */
 #include <fcntl.h>
 #include <stdint.h>
 #include <stdlib.h>
@@ -40,12 +40,10 @@ static char *signed_decimal(char *to, uint32_t word)
     return decimal(to, word);
 }
 
-/* The text of the file behind its heading, with a 0 at its end. */
-static const char *whole(int argc, char **argv, const char *heading)
+/* The bytes of a file, with a 0 at their end. */
+static char *text_of(const char *path)
 {
-    if (argc != 2)
-        exit(2);
-    int file = open(argv[1], O_RDONLY);
+    int file = open(path, O_RDONLY);
     struct stat about;
     if (file < 0 || fstat(file, &about) != 0)
         exit(4);
@@ -60,6 +58,15 @@ static const char *whole(int argc, char **argv, const char *heading)
         have += (size_t)count;
     }
     text[size] = 0;
+    return text;
+}
+
+/* The text of the trace that is named, behind its heading. */
+static inline const char *whole(int argc, char **argv, const char *heading)
+{
+    if (argc != 2)
+        exit(2);
+    const char *text = text_of(argv[1]);
     size_t length = strlen(heading);
     if (strncmp(text, heading, length) != 0)
         exit(3);
@@ -116,6 +123,25 @@ static inline void state(const char *name, const uint32_t *words, uint32_t count
 static inline void done(uint64_t packets)
 {
     char line[32] = "done,", *to = decimal(line + 5, packets);
+    *to++ = '\n';
+    put(line, (size_t)(to - line));
+}
+
+/* The two last kinds of lines of a run on a machine. */
+static inline void place(const char *name, int stage)
+{
+    char line[256] = "place,", *to = stpcpy(line + 6, name);
+    *to++ = ',';
+    to = decimal(to, (uint64_t)stage);
+    *to++ = '\n';
+    put(line, (size_t)(to - line));
+}
+
+static inline void done_after(uint64_t packets, uint64_t cycles)
+{
+    char line[64] = "done,", *to = decimal(line + 5, packets);
+    *to++ = ',';
+    to = decimal(to, cycles);
     *to++ = '\n';
     put(line, (size_t)(to - line));
 }

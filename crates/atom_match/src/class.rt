@@ -52,7 +52,7 @@ pub(crate) fn makes(codelets: &Codelets, members: &[u32], value: u32) -> bool
 }
 
 /// The container of a value that has one; of any other the number of containers.
-pub(crate) fn container(codelets: &Codelets, value: u32) -> u32
+pub fn container(codelets: &Codelets, value: u32) -> u32
     ensures { result ≡ container_of codelets.now.values value }
 {
     match codelets.container(value) {

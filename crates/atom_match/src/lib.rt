@@ -13,7 +13,7 @@ mod rules;
 mod table;
 
 pub use atoms::{Atom, Atoms};
-pub use class::{Flanks, View};
+pub use class::container;
 pub use fault::MatchFault;
-pub use found::{Answer, Fact, Found, Verdict};
 pub use matching::{match_all, trees};
+pub use operator::{port, ports};

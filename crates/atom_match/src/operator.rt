@@ -9,7 +9,8 @@ use dom_flat::{Line, Operand};
 use dom_words::Memory;
 use std::alloc::Global;
 
-fn port(codelets: &Codelets, operand: Operand) -> Port
+/// An operand as an atom reads it: a word, or the container of a value.
+pub fn port(codelets: &Codelets, operand: Operand) -> Port
     ensures { result ≡ port_of (container_of codelets.now.values) operand }
 {
     match operand {
@@ -18,7 +19,8 @@ fn port(codelets: &Codelets, operand: Operand) -> Port
     }
 }
 
-fn ports(alloc: Global, codelets: &Codelets, operands: &[Operand]) -> Result<Ports, Memory>
+/// Operands as an atom reads them.
+pub fn ports(alloc: Global, codelets: &Codelets, operands: &[Operand]) -> Result<Ports, Memory>
     ensures { IfOk result (λ p. p ≡ map (port_of (container_of codelets.now.values)) operands.now) }
 {
     let mut ports = Ports::new(alloc);

@@ -1,5 +1,5 @@
 -- Parameters for one tree stand for trees that fit.
-use Rattle.std.proofs.Common.{◌≡◌, ℕ, ◌&&◌, Bool, true, false, Option, Some, None, refl, sym, ap, ◌∙◌}
+use Rattle.std.proofs.Common.{◌≡◌, ℕ, ◌&&◌, Bool, true, false, Option, Some, None, refl, ap, ◌∙◌}
 use Rattle.std.specs.Prelude.{is_none, MatchOption}
 use Rattle.std.proofs.lemmas.Bool.{and_parts}
 use Rattle.atom_traits.specs.Form.{TreeForm, TreesForm}

@@ -3,9 +3,7 @@ pub mod FitsLaws
 pub mod Form
 pub mod FormCode
 pub mod Operation
-pub mod OperationLaws
 pub mod Praw
 pub mod Raw
 pub mod Renamed
-pub mod SameLaws
 pub mod Tests

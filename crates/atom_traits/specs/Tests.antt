@@ -1,6 +1,7 @@
 -- Tests of all that trees name.
-use Rattle.std.specs.Prelude.{ℕ, ◌-◌, ◌^◌, ◌&&◌, ◌||◌, Bool, true, false, nat_lt, nat_le, nat_eq, if◌then◌else◌, List, Option, Some, None}
+use Rattle.std.specs.Prelude.{ℕ, ◌-◌, ◌^◌, ◌&&◌, Bool, true, false, nat_lt, nat_le, nat_eq, pos, neg_ℤ, int_le, int_lt, if◌then◌else◌, List, Option, Some, None}
 use Rattle.std.specs.List.{list_all}
+use Rattle.dom_words.specs.Number.{signed_of}
 use Rattle.atom_traits.specs.declared.tree.Port.{Port}
 use Rattle.atom_traits.specs.declared.tree.Port.TheVariants as port
 use Rattle.atom_traits.specs.declared.tree.Source.{Source}
@@ -32,10 +33,14 @@ module _ (p : Port → Bool) (q : Source → Bool) where
   abbrev pub trees_pass : TreesForm → Bool
   trees_pass t = tree_passes t.first && second_passes t.second
 
--- a constant of so many bits, read as a signed number: none for 0 bits, all from 32 on
+-- a word, read as a signed number, is at least -2^(bits-1) and less than 2^(bits-1)
+abbrev pub is_signed_within : ℕ → ℕ → Bool
+is_signed_within bits word =
+    int_le (neg_ℤ (pos (2 ^ (bits - 1)))) (signed_of word) && int_lt (signed_of word) (pos (2 ^ (bits - 1)))
+
+-- a constant has so many bits, read as a signed number: none has 0 bits, and from 32 on all have
 abbrev pub is_within : ℕ → ℕ → Bool
-is_within bits word =
-    if nat_eq bits 0 then false else if nat_le 32 bits then true else (nat_lt word (2 ^ (bits - 1)) || nat_le (2 ^ 32 - 2 ^ (bits - 1)) word)
+is_within bits word = if nat_eq bits 0 then false else if nat_le 32 bits then true else is_signed_within bits word
 
 abbrev pub port_within : ℕ → Port → Bool
 port_within bits (port.Const word) = is_within bits word

@@ -25,6 +25,10 @@ geometry_text Small = codes "small"
 geometry_text Medium = codes "medium"
 geometry_text Large = codes "large"
 
+-- a template on a geometry
+abbrev pub target : Template → Geometry → Target
+target t g = record { template = t; geometry = g }
+
 -- a target's name, as `raw-small`
 abbrev pub name_of : Target → List ℕ
 name_of t = template_text t.template ++ codes "-" ++ geometry_text t.geometry

@@ -17,7 +17,7 @@ pub(crate) fn copy_ports(alloc: Global, ports: &[Port]) -> Result<Ports, Memory>
 }
 
 /// The same operator.
-fn copy_op(alloc: Global, op: &StatelessOp) -> Result<StatelessOp, Memory>
+pub fn copy_operation(alloc: Global, op: &StatelessOp) -> Result<StatelessOp, Memory>
     ensures { IfOk result (λ copy. copy ≡ op.now) }
 {
     match op {
@@ -50,7 +50,7 @@ pub(crate) fn copy_ops(alloc: Global, atoms: &[OpAtom]) -> Result<OpAtoms, Memor
 {
     let mut copies = Seq::new(alloc);
     for atom in atoms {
-        let op = copy_op(alloc, &atom.op)?;
+        let op = copy_operation(alloc, &atom.op)?;
         copies.push(OpAtom { to: atom.to, op })?;
     }
     Ok(copies)
@@ -68,7 +68,7 @@ pub(crate) fn copy_slots(alloc: Global, slots: &[PartSlot]) -> Result<PartSlots,
 }
 
 /// The same arrays.
-pub(crate) fn copy_arrays(alloc: Global, arrays: &[Array]) -> Result<ArrayList, Memory>
+pub fn copy_arrays(alloc: Global, arrays: &[Array]) -> Result<ArrayList, Memory>
     ensures { IfOk result (λ copies. copies ≡ arrays.now) }
 {
     let mut copies = Seq::new(alloc);
@@ -84,7 +84,7 @@ pub(crate) fn copy_arrays(alloc: Global, arrays: &[Array]) -> Result<ArrayList, 
 }
 
 /// The same names.
-pub(crate) fn copy_names(alloc: Global, names: &Names) -> Result<NameList, Memory>
+pub fn copy_names(alloc: Global, names: &Names) -> Result<NameList, Memory>
     ensures { IfOk result (λ copies. copies ≡ names.now) }
 {
     let mut copies = Seq::new(alloc);

@@ -19,6 +19,7 @@ mod target;
 mod walk;
 
 pub use config::Config;
+pub use copy::{copy_arrays, copy_names, copy_operation};
 pub use fault::{ConfigFault, ConfigKind};
 pub use parts::{
     FitAtom, FitAtoms, NameList, OpAtom, OpAtoms, PartSlot, PartSlots, Parts, StageList,

@@ -6,7 +6,7 @@ use Rattle.pipeline_law.specs.Order.{AllCommute, Commute, DoesCycle, IsOrder, ru
 use Rattle.pipeline_law.specs.Pipeline.{Midst, Row}
 use Rattle.pipeline_law.specs.Stage.{results}
 use Rattle.pipeline_law.proofs.Theorems.{any_cycle}
-use Rattle.banzai_config.specs.Action.{Arrays, Entry, Write, Export, store, put, atom_writes, atom_exports, stage_writes, stage_exports, acts}
+use Rattle.banzai_config.specs.Action.{Arrays, Entry, Write, Export, store, put, atom_writes, atom_exports, stage_exports, acts}
 use Rattle.banzai_config.specs.Named.{arrays_of, stage_arrays, targets_of}
 use Rattle.banzai_config.specs.Parts.{Atom, PartsForm, StageForm, atoms_of}
 use Rattle.banzai_machine.specs.Fired.{Firing, IsFired, firings_from, put_into, fired_on, fire}

@@ -1,5 +1,5 @@
 -- Atoms that write their exports into the packet that they read, where no atom reads what an earlier one of the stage writes.
-use Rattle.std.proofs.Common.{◌≡◌, ℕ, suc, ◌%◌, Bool, if◌then◌else◌, Option, Some, None, List, [], ◌∷◌, ◌++◌, length, map, take, set, slice_get, slice_index, refl, sym, ◌∙◌, ap, ◌≢◌, get_or-set_other, append-nil, append_assoc}
+use Rattle.std.proofs.Common.{◌≡◌, ℕ, ◌%◌, Bool, if◌then◌else◌, Option, Some, None, List, [], ◌∷◌, ◌++◌, length, map, set, slice_index, refl, sym, ◌∙◌, ap, ◌≢◌, get_or-set_other, append-nil, append_assoc}
 use Rattle.std.specs.List.{flat_map, AllByRecursion as Every}
 use Rattle.dom_words.specs.State.{Hash, array_of}
 use Rattle.dom_words.specs.Operators.{bin_word, chosen, reduced, un_word}

@@ -61,7 +61,7 @@ other-before : (s : StageForm) (arrays : Arrays) (register : Entry) (k : ℕ) �
 other-before s arrays None k p = tt
 other-before s arrays (Some words) k p = stage_writes-arrays s arrays words k p
 
-other-cycle : (ss : List StageForm) (registers : List Entry) (arrays : Arrays) (k : ℕ) → Every (λ s. Every (λ j. j ≢ k) (stage_arrays s)) ss
+pub other-cycle : (ss : List StageForm) (registers : List Entry) (arrays : Arrays) (k : ℕ) → Every (λ s. Every (λ j. j ≢ k) (stage_arrays s)) ss
     → Every (λ (w : Write). w.array ≢ k) (cycle_writes ss registers arrays)
 other-cycle [] registers arrays k p = tt
 other-cycle (s ∷ ss) [] arrays k p = tt

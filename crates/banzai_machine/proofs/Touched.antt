@@ -1,14 +1,18 @@
--- No array stands twice among the touches of one cycle.
-use Rattle.std.proofs.Common.{◌≡◌, ℕ, suc, Some, None, List, [], ◌∷◌, ◌++◌, map, refl, sym, ◌∙◌, ap, ◌≢◌}
-use Rattle.std.proofs.lemmas.List.{map-append}
+-- No array stands twice among the touches of one cycle, and each is there.
+use Rattle.std.proofs.Common.{◌≡◌, ℕ, suc, ◌<◌, All, Some, None, List, [], ◌∷◌, ◌++◌, length, map, refl, ◌∙◌, ap, subst, ◌≢◌}
+use Rattle.std.proofs.lemmas.List.{length-map, map-append}
+use Rattle.std.proofs.lemmas.List.Elements.{All-from_recursion}
 use Rattle.std.specs.List.{flat_map, AllByRecursion as Every}
 use Rattle.banzai_config.specs.declared.parts.PartSlot.{PartSlot}
 use Rattle.banzai_config.specs.Action.{Arrays, Entry}
 use Rattle.banzai_config.specs.Named.{arrays_of, slot_array, stage_arrays}
-use Rattle.banzai_config.specs.Parts.{Atom, Stateful, Stateless, StageForm, atoms_of}
+use Rattle.banzai_config.specs.Legal.{length_of_array}
+use Rattle.banzai_config.specs.Parts.{Atom, PartsForm, Stateful, Stateless, StageForm, atoms_of}
 use Rattle.banzai_machine.specs.declared.touch.Touch.{Touch}
 use Rattle.banzai_machine.specs.Own.{AreDistinct, OwnArrays}
-use Rattle.banzai_machine.specs.Touches.{AreOnce, slots_of, touch_of, touches_before, touches_from}
+use Rattle.banzai_machine.specs.Runnable.{StageWithin, array_sizes}
+use Rattle.banzai_machine.specs.Touches.{AreOnce, cycle_touches, slots_of, touch_of, touches_before, touches_from}
+use Rattle.banzai_machine.proofs.Noted.{stages_below}
 
 -- the first list is the second with some left out
 pub data Within : List ℕ → List ℕ → Type 0 where
@@ -71,3 +75,17 @@ within_cycle n (s ∷ ss) (r ∷ rs) arrays =
 
 pub touches_once : (n : ℕ) (ss : List StageForm) (rs : List Entry) (arrays : Arrays) → OwnArrays ss → AreOnce (touches_from n ss rs arrays)
 touches_once n ss rs arrays owns = within_distinct (within_cycle n ss rs arrays) owns
+
+every_named : (P : ℕ → Type 0) (ts : List Touch) → Every P (arrays_in ts) → Every (λ (t : Touch). P t.array) ts
+every_named P [] p = tt
+every_named P (t ∷ ts) p = (p.0, every_named P ts p.1)
+
+-- each touch of a cycle is of an array that there is
+pub touches_named : (c : PartsForm) (rs : List Entry) (arrays : Arrays) → Every (λ stage. StageWithin (array_sizes c) c.containers stage) c.stages
+    → All (λ (t : Touch). t.array < length c.arrays) (cycle_touches c rs arrays)
+touches_named c rs arrays within =
+    let size : length (array_sizes c) ≡ length c.arrays = length-map c.arrays length_of_array in
+    let below : Every (λ k. k < length (array_sizes c)) (arrays_in (cycle_touches c rs arrays)) =
+    within_every (λ k. k < length (array_sizes c)) (within_cycle 1 c.stages rs arrays) (stages_below (array_sizes c) c.containers c.stages within) in
+    All-from_recursion (λ (t : Touch). t.array < length c.arrays) (cycle_touches c rs arrays)
+    (every_named (λ k. k < length c.arrays) (cycle_touches c rs arrays) (subst (λ n. Every (λ k. k < n) (arrays_in (cycle_touches c rs arrays))) size below))

@@ -1,6 +1,12 @@
 pub mod Alone
+pub mod Busy
 pub mod Fired
 pub mod InPlace
+pub mod Kept
 pub mod Own
 pub mod Pipe
+pub mod Ring
+pub mod Runnable
+pub mod State
+pub mod StateCode
 pub mod Touches

@@ -1,13 +1,15 @@
 //! Laws of configurations, for every hash.
-ghost use Rattle.std.specs.Prelude.{◌≡◌, ℕ, List, length};
+ghost use Rattle.std.specs.Prelude.{◌≡◌, ℕ, Bool, false, true, List, length};
 ghost use Rattle.pipeline_law.specs.Order.{IsOrder};
 ghost use Rattle.pipeline_law.specs.Pipeline.{Row};
 ghost use Rattle.banzai_config.specs.Action.{Arrays, Entry};
+ghost use Rattle.atom_traits.specs.Form.{TreesForm};
+ghost use Rattle.banzai_config.specs.Checked.{shape_with};
 ghost use Rattle.banzai_config.specs.Legal.{LegalFor, Shape};
 ghost use Rattle.banzai_config.specs.Named.{stage_arrays};
 ghost use Rattle.banzai_config.specs.Parts.{PartsForm, StageForm, atoms_of};
 ghost use Rattle.banzai_machine.specs.Alone.{IsMoment, IsPipeAlone};
-ghost use Rattle.banzai_machine.specs.InPlace.{InPlace, IsStageInPlace, NoneReads};
+ghost use Rattle.banzai_machine.specs.InPlace.{InPlace, IsStageInPlace, NoneReads, NoneReadsIn};
 ghost use Rattle.banzai_machine.specs.Own.{AreDistinct, OwnArrays, OwnContainers};
 ghost use Rattle.banzai_machine.specs.Fired.{Firing, IsFired, firings_from};
 ghost use Rattle.banzai_machine.specs.Pipe.{pipe};
@@ -45,6 +47,16 @@ pub fn any_order_is_the_cycle<H: HashUnits>(hash: &H)
 /// A cycle touches no array twice.
 pub fn no_array_is_touched_twice()
     ensures { (p : PartsForm) (registers : List Entry) (arrays : Arrays) → OwnArrays p.stages → AreOnce (cycle_touches p registers arrays) }
+{}
+
+/// In a configuration that is legal for any target no atom of a stage reads what an earlier one writes.
+pub fn legal_atoms_read_what_came_in()
+    ensures { (s : Shape) (p : PartsForm) → LegalFor s p → NoneReadsIn p.stages }
+{}
+
+/// A configuration that is legal for a target without multipliers is legal for the same target with multipliers.
+pub fn multipliers_do_no_harm()
+    ensures { (fits : TreesForm → Bool) (bits depth stateless stateful : ℕ) (p : PartsForm) → LegalFor (shape_with fits bits depth stateless stateful false) p → LegalFor (shape_with fits bits depth stateless stateful true) p }
 {}
 
 /// Where no atom of a stage reads what an earlier one writes, atoms that write their exports into the packet that they

@@ -34,10 +34,10 @@ use Rattle.config_text.specs.Small.{has_small_numbers, is_array_small, is_atom_s
 use Rattle.config_text.specs.Words.{is_small, is_target_word, leaf_fits, op_fits, port_fits, source_fits, tree_fits}
 
 -- what the rules say of an atom by itself
-abbrev is_good : Shape → Atom → Bool
+abbrev pub is_good : Shape → Atom → Bool
 is_good s a = has_good_numbers a && has_pattern s a
 
-abbrev rule_holds : Rule → Bool
+abbrev pub rule_holds : Rule → Bool
 rule_holds r = r.test.holds
 
 atom_good : (s : Shape) (z : Sizes) (before : Before) (a : Atom) (i j : ℕ) → list_all rule_holds (map (at i j) (atom_tests s z before a)) ≡ true → is_good s a ≡ true
@@ -239,6 +239,19 @@ good_stages t k (x ∷ ss) few good small =
           (list_all-append line_fits (stage_lines x) (stages_from (k + 1) ss)
           ∙ and_from _ _ (list_all-append line_fits (map op x.stateless) (flat_map atom_lines x.stateful) ∙ and_from _ _ (good_ops (shape_of t) x.stateless parts.0 numbers.0) atoms.lines) more.lines);
     }
+
+-- of all atoms of a legal configuration
+pub legal_stages : (t : Target) (p : PartsForm) → LegalFor (shape_of t) p → list_all (λ (x : StageForm). list_all (is_good (shape_of t)) (atoms_of x)) p.stages ≡ true
+legal_stages t p legal =
+    let s = shape_of t in
+    let z = sizes_of p in
+    let outs = flat_map (output_rules s z (flat_map stage_targets p.stages)) (standing p.outputs) in
+    let behind = at (s.depth + 1) 0 (test kind.BadNumber (nat_eq (length p.outputs) (length p.fields))) ∷ outs in
+    let stages = flat_map (stage_rules s z) (standing p.stages) in
+    let one = and_parts (head_holds p) _ (all_hold (rules_of s p) legal) in
+    let two = and_parts (nat_eq (length p.stages) s.depth) _ one.1 in
+    let three = and_parts (list_all rule_holds stages) (list_all rule_holds behind) (sym (list_all-append rule_holds stages behind) ∙ two.1) in
+    stages_good s z [] p.stages three.0
 
 -- names
 good_names : (before names : List (List ℕ)) → list_all is_fresh_name (standing_after before names) ≡ true → list_all is_name names ≡ true

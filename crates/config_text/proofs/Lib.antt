@@ -3,8 +3,15 @@ pub mod Split
 pub mod Meant
 pub mod Says
 pub mod Whole
+pub mod Written
 pub mod TextLines
 pub mod OneFault
 pub mod TargetNames
 pub mod OneReading
+pub mod Cursors
+pub mod PortWords
+pub mod TreeWords
+pub mod Values
 pub mod LegalTexts
+pub mod SmallTexts
+pub mod Sizes

@@ -8,13 +8,26 @@ use Rattle.std.proofs.lemmas.Bool.{and_parts, and_from, eqb-true, eq-eqb}
 use Rattle.config_text.specs.Lines.{NamedParts}
 use Rattle.config_text.specs.Lines.{Line, lines_of, line_text, line_fits}
 use Rattle.config_text.specs.Fronts.{ended, has_no_feed, whole_text, Spells, IsFront, IsBadLine}
-use Rattle.config_text.specs.Drafts.{Draft, at_start, headed, in_fields, in_arrays, counted, in_stage, in_outputs, finished, steps, step, on_draft}
+use Rattle.config_text.specs.Drafts.{Draft, at_start, headed, in_fields, in_arrays, counted, in_stage, in_outputs, finished, steps, step, on_draft, when}
 use Rattle.config_text.specs.Reading.{on, line_from}
-use Rattle.config_text.specs.Reader.{is_no_feed, feed_size, line_at, after_line, SoFar, stepped, ended_named}
+use Rattle.config_text.specs.Reader.{is_no_feed, feed_size, line_at, stepped, ended_named}
 use Rattle.config_text.proofs.Says.{steps-append}
 use Rattle.config_text.proofs.Whole.{whole_run, whole_of, front_of}
 use Rattle.config_text.proofs.Split.{line_feed_free}
 use Rattle.config_text.proofs.Meant.{line_back, line_says}
+
+abbrev pub after_line : List ℕ → ℕ → ℕ
+after_line text at = at + feed_size text at + 1
+
+-- the lines before a place
+pub record SoFar (text : List ℕ) (at number : ℕ) (d : Draft) : Type 0 where
+  pub lines : List Line
+  pub run : steps at_start lines ≡ Some d
+  pub fit : list_all line_fits lines ≡ true
+  pub whole : text ≡ ended (map line_text lines) ++ drop at text
+  pub count : number ≡ length lines + 1
+  pub within : at ≤ length text
+  pub few : number ≤ at + 1
 
 pub feed_within : (text : List ℕ) (at : ℕ) → at ≤ length text → at + feed_size text at ≤ length text
 feed_within text at h = let a = prefix_len-le-length is_no_feed (drop at text) in let l = length-drop at text in omega arith
@@ -238,10 +251,10 @@ one_parts p q text (hp, ep) (hq, eq) =
     let ends : Some (finished p) ≡ Some (finished q) = sym (whole_run p hp) ∙ ap (steps at_start) equal ∙ whole_run q hq in
     cc
 
--- the steps of the loop
-pub line_step : (text : List ℕ) (at size number : ℕ) (d e : Draft) (bytes : List ℕ) (o : Option Draft) → SoFar text at number d → at + feed_size text at < length text → size ≡ feed_size text at → bytes ≡ line_at text at → o ≡ stepped d bytes → o ≡ Some e → SoFar text (at + size + 1) (number + 1) e
-line_step text at size number d e bytes o s h z b q r =
-    subst (λ k. SoFar text (at + k + 1) (number + 1) e) (sym z) (line_more text at number d e s h (sym (q ∙ ap (stepped d) b) ∙ r))
+-- one line more: it may stand, or it may not
+pub line_step : (text : List ℕ) (at size number : ℕ) (d e : Draft) (bytes : List ℕ) (stands : Bool) → SoFar text at number d → at + feed_size text at < length text → size ≡ feed_size text at → bytes ≡ line_at text at → stepped d bytes ≡ when stands e → stands ≡ true → SoFar text (at + (size + 1)) (number + 1) e
+line_step text at size number d e bytes stands s h z b q r =
+    subst (λ k. SoFar text k (number + 1) e) (let p : after_line text at ≡ at + (size + 1) = omega arith in p) (line_more text at number d e s h (sym (ap (stepped d) b) ∙ q ∙ ap (λ (t : Bool). when t e) r))
 
-pub line_stop : (text : List ℕ) (at number : ℕ) (d : Draft) (bytes : List ℕ) (o : Option Draft) → SoFar text at number d → at + feed_size text at < length text → bytes ≡ line_at text at → o ≡ stepped d bytes → o ≡ None → IsBadLine text number
-line_stop text at number d bytes o s h b q r = bad_line text at number d s h (sym (q ∙ ap (stepped d) b) ∙ r)
+pub line_stop : (text : List ℕ) (at number : ℕ) (d e : Draft) (bytes : List ℕ) (stands : Bool) → SoFar text at number d → at + feed_size text at < length text → bytes ≡ line_at text at → stepped d bytes ≡ when stands e → stands ≡ false → IsBadLine text number
+line_stop text at number d e bytes stands s h b q r = bad_line text at number d s h (sym (ap (stepped d) b) ∙ q ∙ ap (λ (t : Bool). when t e) r)

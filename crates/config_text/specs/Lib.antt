@@ -2,6 +2,11 @@ pub mod Words
 pub mod Lines
 pub mod Fronts
 pub mod Small
+pub mod Sizes
+pub mod Writer
 pub mod Drafts
 pub mod Reading
 pub mod Reader
+pub mod ReadFaults
+pub mod Views
+pub mod DraftViews

@@ -1,11 +1,12 @@
 //! Laws of the texts of configurations: a text has one answer.
-ghost use Rattle.std.specs.Prelude.{◌≡◌, ℕ, List, true};
+ghost use Rattle.std.specs.Prelude.{◌≡◌, ◌≤◌, ◌<◌, ℕ, List, length, true};
 ghost use Rattle.banzai_config.specs.declared.target.Target.{Target};
 ghost use Rattle.banzai_config.specs.Legal.{LegalFor};
 ghost use Rattle.banzai_config.specs.Parts.{PartsForm};
 ghost use Rattle.banzai_config.specs.Targets.{shape_of};
 ghost use Rattle.config_text.specs.Fronts.{HasNoTarget, IsBadLine, Spells, TextOf, text_of};
 ghost use Rattle.config_text.specs.Lines.{NamedParts};
+ghost use Rattle.config_text.specs.Sizes.{names_size};
 ghost use Rattle.config_text.specs.Small.{has_small_numbers};
 
 /// A text spells one configuration at most, under the name of one target.
@@ -30,4 +31,10 @@ pub fn one_answer()
 /// A configuration that is legal for a target, and whose numbers are below 2^32, has a text, which is `text_of`.
 pub fn legal_text()
     ensures { (t : Target) (p : PartsForm) → LegalFor (shape_of t) p → has_small_numbers p ≡ true → TextOf t p (text_of t p) }
+{}
+
+/// The text of a legal configuration whose names have at most 65,536 bytes together, as those of one program have, is
+/// shorter than 1,048,576 bytes, the most that are read.
+pub fn short_text()
+    ensures { (t : Target) (p : PartsForm) (text : List ℕ) → LegalFor (shape_of t) p → TextOf t p text → names_size p ≤ 65536 → length text < 1048576 }
 {}

@@ -1,4 +1,9 @@
 -- Why the contracts hold.
+pub mod Causes
+pub mod Drawn
 pub mod Listed
+pub mod Names
+pub mod OneAnswer
 pub mod OneProgram
+pub mod Runs
 pub mod WellNamed

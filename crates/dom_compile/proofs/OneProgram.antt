@@ -1,5 +1,5 @@
 -- A text is one thing as a program.
-use Rattle.std.proofs.Common.{◌≡◌, ℕ, List, length, sym, ap, ◌∙◌, subst, Some, None, Result, Ok, Err}
+use Rattle.std.proofs.Common.{◌≡◌, ℕ, List, length, sym, ap, ◌∙◌, subst, Result, Ok, Err}
 use Rattle.dom_lexer.specs.declared.token.Token.{Token}
 use Rattle.dom_lexer.specs.declared.token.LexFault.{LexFault}
 use Rattle.dom_lexer.proofs.One.{one_answer}

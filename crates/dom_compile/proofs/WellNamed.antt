@@ -1,6 +1,6 @@
 -- The names in a well-formed program: from the text to its words, from these to what heads declare, and from there to the
 -- fields and arrays.
-use Rattle.std.proofs.Common.{◌≡◌, ℕ, ◌+◌, ◌≤◌, List, length, sym, subst, arith}
+use Rattle.std.proofs.Common.{ℕ, List, sym, subst, arith}
 use Rattle.dom_words.specs.Spelling.{is_name}
 use Rattle.dom_lexer.specs.Words.{AreWordsOf}
 use Rattle.dom_lexer.proofs.Words.{are_words}

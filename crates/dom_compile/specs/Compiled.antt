@@ -51,6 +51,9 @@ IsTooLong program fault.Memory = Unit {0}
 IsTooLong program (fault.Lex f) = ⊥
 IsTooLong program (fault.Parse f) = ⊥
 IsTooLong program (fault.Check f) = ⊥
+IsTooLong program (fault.Outside n) = ⊥
+IsTooLong program (fault.TooDeep chain) = ⊥
+IsTooLong program (fault.Full n kind stage) = ⊥
 
 -- the first cause why a text has no statement list; want of memory needs none
 abbrev pub IsCause : List ℕ → CompileFault → Type 0
@@ -60,3 +63,6 @@ IsCause text (fault.Check f) = HasCheckFault text f
 IsCause text (fault.TooManyStatements n) =
     (program : CheckedForm) × IsWellFormed text program × (n ≡ length (listed program).lines) × (512 < n)
 IsCause text fault.Memory = Unit {0}
+IsCause text (fault.Outside n) = ⊥
+IsCause text (fault.TooDeep chain) = ⊥
+IsCause text (fault.Full n kind stage) = ⊥

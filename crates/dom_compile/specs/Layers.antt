@@ -7,6 +7,10 @@ use Rattle.dom_checks.specs.declared.faults.CheckFault.{CheckFault}
 use Rattle.dom_checks.specs.declared.faults.CheckFault.TheVariants as check
 use Rattle.three_address.specs.declared.fault.FlatFault.{FlatFault}
 use Rattle.three_address.specs.declared.fault.FlatFault.TheVariants as flat
+use Rattle.atom_match.specs.declared.fault.MatchFault.{MatchFault}
+use Rattle.atom_match.specs.declared.fault.MatchFault.TheVariants as match_fault
+use Rattle.stage_plan.specs.declared.fault.PlanFault.{PlanFault}
+use Rattle.stage_plan.specs.declared.fault.PlanFault.TheVariants as plan
 use Rattle.dom_compile.specs.declared.faults.CompileFault.{CompileFault}
 use Rattle.dom_compile.specs.declared.faults.CompileFault.TheVariants as fault
 
@@ -37,3 +41,12 @@ of_check check.Memory = fault.Memory
 abbrev pub of_flat : FlatFault → CompileFault
 of_flat (flat.TooManyStatements n) = fault.TooManyStatements n
 of_flat flat.Memory = fault.Memory
+
+abbrev pub of_match : MatchFault → CompileFault
+of_match (match_fault.Outside n) = fault.Outside n
+of_match match_fault.Memory = fault.Memory
+
+abbrev pub of_plan : PlanFault → CompileFault
+of_plan (plan.TooDeep chain) = fault.TooDeep chain
+of_plan (plan.Full codelet kind stage) = fault.Full codelet kind stage
+of_plan plan.Memory = fault.Memory

@@ -1,5 +1,5 @@
 -- What a text is as a program.
-use Rattle.std.specs.Prelude.{◌≡◌, List, ℕ, Result, Ok, Err}
+use Rattle.std.specs.Prelude.{List, ℕ, Result, Ok, Err}
 use Rattle.dom_lexer.specs.declared.token.LexFault.{LexFault}
 use Rattle.dom_parser.specs.declared.faults.ParseFault.{ParseFault}
 use Rattle.dom_ast.specs.Resolved.{CheckedForm}

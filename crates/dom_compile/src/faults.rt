@@ -1,11 +1,14 @@
+use atom_match::MatchFault;
+use codelets::Kind;
 use dom_checks::CheckFault;
 use dom_lexer::LexFault;
 use dom_parser::ParseFault;
 use dom_words::Memory;
+use stage_plan::{Chain, PlanFault};
 use three_address::FlatFault;
 
 /// Why a text is not compiled, in the order in which the causes are looked for.
-#[derive(Clone, Copy, Debug, PartialEq, Eq)]
+#[derive(Debug, Drop)]
 pub enum CompileFault {
     /// It is no row of tokens.
     Lex(LexFault),
@@ -15,6 +18,17 @@ pub enum CompileFault {
     Check(CheckFault),
     /// The statement list has so many statements, and they are more than 512.
     TooManyStatements(u32),
+    /// The least statement number of the first codelet that does not fit the target.
+    Outside(u32),
+    /// The longest chain of codelets has more of them than the target has stages: the least statement numbers of the first
+    /// such chain in dictionary order.
+    TooDeep(Chain),
+    /// A codelet, by its least statement number, finds no place: a kind and a stage that is full of it.
+    Full {
+        codelet: u32,
+        kind: Kind,
+        stage: u32,
+    },
     /// Want of memory.
     Memory,
 }
@@ -82,6 +96,43 @@ impl From<FlatFault> for CompileFault {
         match inner {
             FlatFault::TooManyStatements(count) => CompileFault::TooManyStatements(count),
             FlatFault::Memory => CompileFault::Memory,
+        }
+    }
+}
+
+impl From<MatchFault> for CompileFault {
+    ghost use Rattle.std.specs.Prelude.{◌≡◌};
+    ghost use Rattle.dom_compile.specs.Layers.{of_match};
+
+    ghost from_gives = { λ inner f. f ≡ of_match inner };
+
+    fn from(inner: MatchFault) -> Self {
+        match inner {
+            MatchFault::Outside(number) => CompileFault::Outside(number),
+            MatchFault::Memory => CompileFault::Memory,
+        }
+    }
+}
+
+impl From<PlanFault> for CompileFault {
+    ghost use Rattle.std.specs.Prelude.{◌≡◌};
+    ghost use Rattle.dom_compile.specs.Layers.{of_plan};
+
+    ghost from_gives = { λ inner f. f ≡ of_plan inner };
+
+    fn from(inner: PlanFault) -> Self {
+        match inner {
+            PlanFault::TooDeep(chain) => CompileFault::TooDeep(chain),
+            PlanFault::Full {
+                codelet,
+                kind,
+                stage,
+            } => CompileFault::Full {
+                codelet,
+                kind,
+                stage,
+            },
+            PlanFault::Memory => CompileFault::Memory,
         }
     }
 }

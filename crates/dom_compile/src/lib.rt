@@ -1,11 +1,10 @@
-//! The compiler: every pass in its order, from a text to a statement list.
+//! The compiler: every pass in its order, from a text to a configuration of the pipeline.
 #![tactic(auto)]
 
+mod compiling;
 mod faults;
 pub mod laws;
 mod passes;
-#[cfg(test)]
-mod tests;
 
+pub use compiling::compile;
 pub use faults::CompileFault;
-pub use passes::statements;

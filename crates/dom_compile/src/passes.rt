@@ -24,7 +24,7 @@ use three_address::flatten;
 
 /// The statement list of the program that a text of at most 65,536 bytes spells, or the first cause why it has none. The
 /// statements do to a packet and a state what the program does (docs/ARCHITECTURE.md, "The way of a program").
-pub fn statements(alloc: Global, text: &[u8]) -> Result<Flat, CompileFault>
+pub(crate) fn statements(alloc: Global, text: &[u8]) -> Result<Flat, CompileFault>
     requires { length text.now ≤ 65536 }
     ensures list { IfOk result (λ flat. IsCompiled text.now flat) }
     ensures refused { IfErr result (λ fault. IsCause text.now fault) }
@@ -47,7 +47,7 @@ fn tree(alloc: Global, text: &[u8]) -> Result<Program, CompileFault>
 }
 
 /// The program that a text spells, where it is well formed, with its names resolved.
-pub(crate) fn checked(alloc: Global, text: &[u8]) -> Result<Checked, CompileFault>
+fn checked(alloc: Global, text: &[u8]) -> Result<Checked, CompileFault>
     requires { length text.now ≤ 65536 }
     ensures program { IfOk result (λ c. IsWellFormed text.now (checked_form c)) }
     ensures nodes { IfOk result (λ c. bodies_nodes (bodies_form c.bodies) ≤ 16384) }

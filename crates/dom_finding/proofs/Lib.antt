@@ -1,5 +1,4 @@
-pub mod Found
+pub mod OneConfig
 pub mod OneFinding
-pub mod Pieces
 pub mod Stopped
 pub mod Told

@@ -1,27 +1,22 @@
 -- There is one finding: after some texts one thing comes next.
-use Rattle.std.proofs.Common.{◌≡◌, ℕ, ◌<◌, ◌≤◌, List, [], ◌∷◌, length, sym, ap, ◌∙◌, refl, subst, Option, Some, IfSome, Result, Ok, Err, arith}
+use Rattle.std.proofs.Common.{◌≡◌, ℕ, ◌<◌, ◌≤◌, List, [], ◌∷◌, length, sym, ap, ◌∙◌, refl, subst, Option, IfSome, Result, Ok, Err, arith}
+use Rattle.dom_io.specs.Causes.{Rose}
 use Rattle.trace_text.specs.Trace.{IsTraceOf}
 use Rattle.trace_text.proofs.Once.{one_trace}
 use Rattle.dom_ast.specs.Resolved.{CheckedForm}
 use Rattle.dom_compile.specs.Verdict.{IsProgram}
 use Rattle.dom_compile.proofs.OneProgram.{one_program}
-use Rattle.dom_finding.specs.Command.{Command, run, serial}
-use Rattle.dom_finding.specs.Finding.{Ask, Finding, Gives, IsFoundAfter, IsNext, IsTold, MayHold, Next, after_answer, ask, clocked, ends, found, in_turn, over, reads, trace_file}
-use Rattle.dom_finding.specs.FirstForm.{FormNames, IsFirstForm, IsForm}
-use Rattle.dom_finding.specs.Refusals.{no_form, refused_program, refused_trace}
+use Rattle.banzai_config.specs.Parts.{PartsForm}
+use Rattle.banzai_config.specs.Targets.{shape_of}
+use Rattle.config_text.specs.Fronts.{text_of}
+use Rattle.dom_compile.specs.Answer.{IsCompileAnswer}
+use Rattle.dom_compile.proofs.OneAnswer.{one_compile_answer}
+use Rattle.dom_finding.specs.Command.{Command, ConfigNames, compile, exec, run, serial, watch}
+use Rattle.dom_finding.specs.Configs.{ConfigForm, IsConfig}
+use Rattle.dom_finding.specs.Finding.{Ask, Finding, Gives, IsFoundAfter, IsNext, IsNextOver, IsTold, IsUnreadAfter, Job, MayHold, Next, Packets, after_answer, ask, clocked, ends, found, here, in_turn, later, over, reads, trace_file, written, watched}
+use Rattle.dom_finding.specs.Refusals.{refused_compile, refused_config, refused_program, refused_trace}
+use Rattle.dom_finding.proofs.OneConfig.{one_config}
 use Rattle.dom_finding.specs.declared.refusals.Refusal.{Refusal}
-use Rattle.dom_finding.proofs.Found as form
-
--- A program of the first form has its names once.
-
-one_names : (text : List ℕ) (m n : FormNames) → IsFirstForm text m → IsFirstForm text n → m ≡ n
-one_names text m n a b = sym (form.found text m a) ∙ form.found text n b
-
-one_form : (text : List ℕ) (r s : Result FormNames (Unit {0})) → IsForm text r → IsForm text s → r ≡ s
-one_form text (Ok m) (Ok n) a b = ap Ok (one_names text m n a b)
-one_form text (Ok m) (Err u) a b = absurd (b m a)
-one_form text (Err u) (Ok n) a b = absurd (a n b)
-one_form text (Err u) (Err v) a b = refl
 
 -- What comes next, comes once, where a text is one thing.
 
@@ -29,16 +24,28 @@ gives_once : {X F : Type 0} (Is : Result X F → Type 0) (refuse : F → Refusal
     → Gives Is refuse go m → Gives Is refuse go n → m ≡ n
 gives_once Is refuse go m n once a b = a.2 ∙ ap (after_answer refuse go) (once a.0 b.0 a.1 b.1) ∙ sym b.2
 
-pub next_once : (command : Command) (texts : List (List ℕ)) (m n : Next) → IsNext command texts m → IsNext command texts n → m ≡ n
-next_once (run files) [] m n a b = a ∙ sym b
-next_once (run files) (program ∷ []) m n a b = gives_once (IsForm program) no_form (λ k. ask (trace_file files.trace)) m n (one_form program) a b
-next_once (run files) (trace ∷ program ∷ []) m n a b =
-    let e = one_form program (Ok a.0) (Ok b.0) a.1 b.1 in
+over_once : (names : ConfigNames) (go : PartsForm → Next) (job : PartsForm → Packets → Job) (texts : List (List ℕ)) (m n : Next) → IsNextOver names go job texts m → IsNextOver names go job texts n → m ≡ n
+over_once names go job [] m n a b = a ∙ sym b
+over_once names go job (config ∷ []) m n a b = gives_once (IsConfig config) refused_config (λ c. go c.parts) m n (one_config config) a b
+over_once names go job (trace ∷ config ∷ []) m n a b =
+    let e = one_config config (Ok a.0) (Ok b.0) a.1 b.1 in
     let same : b.0 ≡ a.0 = cc in
-    let k : FormNames = a.0 in
-    gives_once (IsTraceOf trace (k.added ∷ k.sum ∷ []) 4) refused_trace (λ packets. found (Ok (clocked k packets))) m n (one_trace trace (k.added ∷ k.sum ∷ []) 4) a.2
-    (subst (λ (x : FormNames). Gives (IsTraceOf trace (x.added ∷ x.sum ∷ []) 4) refused_trace (λ packets. found (Ok (clocked x packets))) n) same b.2)
-next_once (run files) (third ∷ trace ∷ program ∷ more) m n a b = absurd a
+    let c : ConfigForm = a.0 in
+    gives_once (IsTraceOf trace c.parts.fields (length c.parts.stages)) refused_trace (λ packets. found (Ok (job c.parts packets))) m n (one_trace trace c.parts.fields (length c.parts.stages)) a.2
+    (subst (λ (x : ConfigForm). Gives (IsTraceOf trace x.parts.fields (length x.parts.stages)) refused_trace (λ packets. found (Ok (job x.parts packets))) n) same b.2)
+over_once names go job (third ∷ trace ∷ config ∷ more) m n a b = absurd a
+
+pub next_once : (command : Command) (texts : List (List ℕ)) (m n : Next) → IsNext command texts m → IsNext command texts n → m ≡ n
+next_once (run target files) [] m n a b = a ∙ sym b
+next_once (run target files) (program ∷ []) m n a b =
+    gives_once (IsCompileAnswer (shape_of target) program) refused_compile (λ parts. ask (trace_file files.trace)) m n (one_compile_answer (shape_of target) program) a b
+next_once (run target files) (trace ∷ program ∷ []) m n a b =
+    let e = one_compile_answer (shape_of target) program (Ok a.0) (Ok b.0) a.1 b.1 in
+    let same : b.0 ≡ a.0 = cc in
+    let p : PartsForm = a.0 in
+    gives_once (IsTraceOf trace p.fields (length p.stages)) refused_trace (λ packets. found (Ok (clocked p packets))) m n (one_trace trace p.fields (length p.stages)) a.2
+    (subst (λ (x : PartsForm). Gives (IsTraceOf trace x.fields (length x.stages)) refused_trace (λ packets. found (Ok (clocked x packets))) n) same b.2)
+next_once (run target files) (third ∷ trace ∷ program ∷ more) m n a b = absurd a
 next_once (serial files) [] m n a b = a ∙ sym b
 next_once (serial files) (program ∷ []) m n a b = gives_once (IsProgram program) refused_program (λ c. ask (trace_file files.trace)) m n (one_program program) a b
 next_once (serial files) (trace ∷ program ∷ []) m n a b =
@@ -48,6 +55,12 @@ next_once (serial files) (trace ∷ program ∷ []) m n a b =
     gives_once (IsTraceOf trace c.fields 0) refused_trace (λ packets. found (Ok (in_turn c packets))) m n (one_trace trace c.fields 0) a.2
     (subst (λ (x : CheckedForm). Gives (IsTraceOf trace x.fields 0) refused_trace (λ packets. found (Ok (in_turn x packets))) n) same b.2)
 next_once (serial files) (third ∷ trace ∷ program ∷ more) m n a b = absurd a
+next_once (compile target name) [] m n a b = a ∙ sym b
+next_once (compile target name) (program ∷ []) m n a b =
+    gives_once (IsCompileAnswer (shape_of target) program) refused_compile (λ parts. found (Ok (written (text_of target parts)))) m n (one_compile_answer (shape_of target) program) a b
+next_once (compile target name) (second ∷ program ∷ more) m n a b = absurd a
+next_once (exec names) texts m n a b = over_once names (λ parts. ask (trace_file names.trace)) clocked texts m n a b
+next_once (watch names) texts m n a b = over_once names (λ parts. ask (trace_file names.trace)) watched texts m n a b
 
 -- What may be found is what is found in files that are told.
 
@@ -95,3 +108,10 @@ found_in_weaker H K command texts f weaker (reads a text x h l e) = reads a text
 -- what is told may be
 pub told_may : (files : List ℕ → Option (List ℕ)) (name text : List ℕ) → IsTold files name text → MayHold files name text
 told_may files name text told = subst (λ (o : Option (List ℕ)). IfSome o (λ bytes. bytes ≡ text)) (sym told) refl
+
+-- What is unread where a weaker thing is held and the counts are the same.
+pub unread_in_weaker : (H K : List ℕ → List ℕ → Type 0) (command : Command) (texts : List (List ℕ)) (before then now : List ℕ → ℕ) → ((name text : List ℕ) → H name text → K name text)
+    → ((name : List ℕ) → then name ≡ before name) → IsUnreadAfter H command texts then now → IsUnreadAfter K command texts before now
+unread_in_weaker H K command texts before then now weaker same (here a x rose) = here a x (subst (λ (n : ℕ). Rose n (now a.name)) (same a.name) rose)
+unread_in_weaker H K command texts before then now weaker same (later a text x h l e) =
+    later a text x (weaker a.name text h) l (unread_in_weaker H K command (text ∷ texts) before then now weaker same e)

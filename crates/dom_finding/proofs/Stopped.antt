@@ -1,5 +1,5 @@
 -- Why a fault stops a command.
-use Rattle.std.proofs.Common.{◌≡◌, ℕ, ◌<◌, ◌≤◌, List, ◌∷◌, length, refl, sym, ◌∙◌, subst, arith, Option, Some, None, IfSome, Result, Ok, Err}
+use Rattle.std.proofs.Common.{◌≡◌, ℕ, ◌≤◌, List, ◌∷◌, length, refl, sym, ◌∙◌, subst, arith, Option, IfSome, Result, Err}
 use Rattle.dom_io.specs.Causes.{Rose}
 use Rattle.dom_lexer.specs.declared.token.Token.{Token}
 use Rattle.dom_lexer.specs.declared.token.LexFault.{LexFault}
@@ -18,10 +18,25 @@ use Rattle.trace_text.specs.declared.trace.TraceFault.{TraceFault}
 use Rattle.trace_text.specs.declared.trace.TraceFault.TheVariants as fault
 use Rattle.dom_compile.specs.Programs.{HasProgram, HasTokens}
 use Rattle.dom_compile.specs.Verdict.{IsProgram, of_bytes, of_names, of_tokens}
+use Rattle.banzai_config.specs.Legal.{Shape}
+use Rattle.dom_compile.specs.Answer.{IsCompileAnswer, IsCompileFault, full, ill_formed, outside, too_deep, too_many}
+use Rattle.dom_compile.specs.declared.faults.CompileFault.{CompileFault}
+use Rattle.dom_compile.specs.declared.faults.CompileFault.TheVariants as compile
+use Rattle.banzai_config.specs.Checked.{IsFaultOf}
+use Rattle.banzai_config.specs.Parts.{PartsForm}
+use Rattle.banzai_config.specs.Targets.{shape_of}
+use Rattle.banzai_config.specs.declared.fault.ConfigFault.{ConfigFault}
+use Rattle.banzai_config.specs.declared.fault.ConfigFault.TheVariants as broken
+use Rattle.banzai_config.specs.declared.target.Target.{Target}
+use Rattle.config_text.specs.Fronts.{TextOf}
+use Rattle.config_text.specs.ReadFaults.{IsReadFault}
+use Rattle.config_text.specs.declared.fault.ReadFault.{ReadFault}
+use Rattle.config_text.specs.declared.fault.ReadFault.TheVariants as read
 use Rattle.dom_finding.specs.Command.{Command}
+use Rattle.dom_finding.specs.Configs.{IsConfig, bad_line, illegal, unknown_target}
 use Rattle.dom_finding.specs.Finding.{Ask, IsFoundAfter, IsNext, MayHold, ask, ends, found, here, later, over, reads}
-use Rattle.dom_finding.specs.Refusals.{refused_program, refused_trace}
-use Rattle.dom_finding.specs.Stops.{AreKept, FileStop, HaveNotFallen, StopAfter, TextStop, stop_of_check, stop_of_lex, stop_of_parse, trace_stop}
+use Rattle.dom_finding.specs.Refusals.{refused_compile, refused_config, refused_program, refused_trace}
+use Rattle.dom_finding.specs.Stops.{AreKept, FileStop, StopAfter, TextStop, stop_of_check, stop_of_compile, stop_of_config, stop_of_lex, stop_of_parse, stop_of_read, trace_stop}
 use Rattle.dom_finding.specs.declared.reading.Stop.{Stop}
 use Rattle.dom_finding.specs.declared.reading.Stop.TheVariants.{Refused, Unread, Memory}
 use Rattle.dom_finding.specs.declared.refusals.Refusal.{Refusal}
@@ -73,6 +88,43 @@ check_first text p check.Memory has first = tt
 
 pub check_stops : (text : List ℕ) (p : ProgramForm) (f : CheckFault) (stop : Stop) → stop ≡ stop_of_check f → HasProgram text p → IsViolation p f → ProgramStop text stop
 check_stops text p f stop is has first = subst (λ (s : Stop). ProgramStop text s) (sym is) (check_first text p f has first)
+
+-- the first refusal of the compiler
+abbrev pub StopsCompile : Shape → List ℕ → Stop → Type 0
+StopsCompile s text stop = TextStop (IsCompileAnswer s text) refused_compile stop
+
+compile_first : (s : Shape) (text : List ℕ) (f : CompileFault) → IsCompileFault s text f → StopsCompile s text (stop_of_compile f)
+compile_first s text (compile.Lex f) first = (ill_formed (of_bytes f), first, refl)
+compile_first s text (compile.Parse f) first = (ill_formed (of_tokens f), first, refl)
+compile_first s text (compile.Check f) first = (ill_formed (of_names f), first, refl)
+compile_first s text (compile.TooManyStatements n) first = (too_many n, first, refl)
+compile_first s text (compile.Outside codelet) first = (outside codelet, first, refl)
+compile_first s text (compile.TooDeep chain) first = (too_deep chain, first, refl)
+compile_first s text (compile.Full codelet kind stage) first = (full codelet kind stage, first, refl)
+compile_first s text compile.Memory first = tt
+
+pub compile_stops : (s : Shape) (text : List ℕ) (f : CompileFault) (stop : Stop) → stop ≡ stop_of_compile f → IsCompileFault s text f → StopsCompile s text stop
+compile_stops s text f stop is first = subst (λ (x : Stop). StopsCompile s text x) (sym is) (compile_first s text f first)
+
+-- what a configuration is refused for
+abbrev pub StopsConfig : List ℕ → Stop → Type 0
+StopsConfig text stop = TextStop (IsConfig text) refused_config stop
+
+read_first : (text : List ℕ) (f : ReadFault) → IsReadFault text f → StopsConfig text (stop_of_read f)
+read_first text (read.Line n) is = (bad_line n, is, refl)
+read_first text read.UnknownTarget is = (unknown_target, is, refl)
+read_first text read.Memory is = tt
+
+pub read_stops : (text : List ℕ) (f : ReadFault) (stop : Stop) → stop ≡ stop_of_read f → IsReadFault text f → StopsConfig text stop
+read_stops text f stop is first = subst (λ (x : Stop). StopsConfig text x) (sym is) (read_first text f first)
+
+rule_first : (t : Target) (p : PartsForm) (text : List ℕ) (f : ConfigFault) → TextOf t p text → IsFaultOf (shape_of t) p f → StopsConfig text (stop_of_config f)
+rule_first t p text (broken.Refused kind stage atom) spelled is =
+    (illegal (record { kind = kind; stage = stage; atom = atom }), record { target = t; parts = p; spelled = spelled; broken = is }, refl)
+rule_first t p text broken.Memory spelled is = tt
+
+pub rule_stops : (t : Target) (p : PartsForm) (text : List ℕ) (f : ConfigFault) (stop : Stop) → stop ≡ stop_of_config f → TextOf t p text → IsFaultOf (shape_of t) p f → StopsConfig text stop
+rule_stops t p text f stop is spelled first = subst (λ (x : Stop). StopsConfig text x) (sym is) (rule_first t p text f spelled first)
 
 -- the first refusal of a trace
 abbrev pub StopsTrace : List ℕ → List (List ℕ) → ℕ → Stop → Type 0

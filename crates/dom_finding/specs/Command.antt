@@ -1,17 +1,32 @@
 -- The words of the command line.
-use Rattle.std.specs.Prelude.{ℕ, List, [], ◌∷◌, Option, None, Some, Bool, ◌&&◌, ◌==◌, not, length, map, codes, if◌then◌else◌, String, string_bytes}
+use Rattle.std.specs.Prelude.{ℕ, List, [], ◌∷◌, Option, None, Some, option_map, Bool, ◌&&◌, ◌==◌, not, length, map, codes, if◌then◌else◌, String, string_bytes}
 use Rattle.std.specs.declared.alloc.Global.{Global}
 use Rattle.dom_words.specs.Names.{is_same}
+use Rattle.banzai_config.specs.declared.target.Target.{Target}
+use Rattle.banzai_config.specs.Targets.{target_named}
 
--- the names of the files of a command
+-- the names of the files of a command over a program
 pub record FileNames : Type 0 where
   pub program : List ℕ
   pub trace : List ℕ
 
--- what is asked for: the program on its pipeline, or the program run serially
+-- the names of the files of a command over a configuration
+pub record ConfigNames : Type 0 where
+  pub config : List ℕ
+  pub trace : List ℕ
+
+-- what is asked for
 pub data Command : Type 0 where
-  run : FileNames → Command
+  -- the program clocked on a target
+  run : Target → FileNames → Command
+  -- the program run serially
   serial : FileNames → Command
+  -- the configuration of the program in this file for a target
+  compile : Target → List ℕ → Command
+  -- a configuration clocked
+  exec : ConfigNames → Command
+  -- and every cycle of it told
+  watch : ConfigNames → Command
 
 -- the texts of words
 abbrev pub texts_of : List (String Global) → List (List ℕ)
@@ -24,12 +39,43 @@ is_file name = not (length name == 0)
 abbrev pub files_named : List ℕ → List ℕ → FileNames
 files_named program trace = record { program = program; trace = trace }
 
--- the command that words spell: `run raw-small PROGRAM TRACE` or `serial PROGRAM TRACE`
+abbrev pub configs_named : List ℕ → List ℕ → ConfigNames
+configs_named config trace = record { config = config; trace = trace }
+
+-- The words behind the command's own.
+
+-- `TARGET PROGRAM TRACE`, where TARGET is the name of a target
+abbrev pub run_of : List (List ℕ) → Option Command
+run_of (name ∷ program ∷ trace ∷ []) =
+    if is_file program && is_file trace then option_map (λ target. run target (files_named program trace)) (target_named name) else None
+run_of _ = None
+
+-- `PROGRAM TRACE`
+abbrev pub serial_of : List (List ℕ) → Option Command
+serial_of (program ∷ trace ∷ []) = if is_file program && is_file trace then Some (serial (files_named program trace)) else None
+serial_of _ = None
+
+-- `TARGET PROGRAM`, where TARGET is the name of a target
+abbrev pub compile_of : List (List ℕ) → Option Command
+compile_of (name ∷ program ∷ []) = if is_file program then option_map (λ target. compile target program) (target_named name) else None
+compile_of _ = None
+
+-- `CONFIG TRACE`
+abbrev pub exec_of : List (List ℕ) → Option Command
+exec_of (config ∷ trace ∷ []) = if is_file config && is_file trace then Some (exec (configs_named config trace)) else None
+exec_of _ = None
+
+abbrev pub watch_of : List (List ℕ) → Option Command
+watch_of (config ∷ trace ∷ []) = if is_file config && is_file trace then Some (watch (configs_named config trace)) else None
+watch_of _ = None
+
+-- the command that words spell
 abbrev pub command_of : List (List ℕ) → Option Command
-command_of (command ∷ program ∷ trace ∷ []) =
-    if is_same command (codes "serial") && is_file program && is_file trace then Some (serial (files_named program trace)) else None
-command_of (command ∷ target ∷ program ∷ trace ∷ []) =
-    if is_same command (codes "run") && is_same target (codes "raw-small") && is_file program && is_file trace
-    then Some (run (files_named program trace))
-    else None
-command_of _ = None
+command_of [] = None
+command_of (command ∷ words) =
+    if is_same command (codes "run") then run_of words
+    else (if is_same command (codes "serial") then serial_of words
+    else (if is_same command (codes "compile") then compile_of words
+    else (if is_same command (codes "exec") then exec_of words
+    else (if is_same command (codes "watch") then watch_of words
+    else None))))

@@ -1,5 +1,6 @@
 -- The command that the code has found, as the definition's.
-use Rattle.dom_finding.specs.Command.{Command, FileNames, run, serial}
+use Rattle.dom_finding.specs.Command.{Command, ConfigNames, FileNames, compile, exec, run, serial, watch}
+use Rattle.dom_finding.specs.declared.command.ConfigFiles.{ConfigFiles}
 use Rattle.dom_finding.specs.declared.command.Files.{Files}
 use Rattle.dom_finding.specs.declared.command.Command.{Command as Found}
 use Rattle.dom_finding.specs.declared.command.Command.TheVariants as found
@@ -7,6 +8,12 @@ use Rattle.dom_finding.specs.declared.command.Command.TheVariants as found
 abbrev pub names_in : Files → FileNames
 names_in files = record { program = files.program.now; trace = files.trace.now }
 
+abbrev pub configs_in : ConfigFiles → ConfigNames
+configs_in files = record { config = files.config.now; trace = files.trace.now }
+
 abbrev pub command_in : Found → Command
-command_in (found.Run files) = run (names_in files)
+command_in (found.Run target files) = run target (names_in files)
 command_in (found.Serial files) = serial (names_in files)
+command_in (found.Compile target program) = compile target program.now
+command_in (found.Exec files) = exec (configs_in files)
+command_in (found.Watch files) = watch (configs_in files)

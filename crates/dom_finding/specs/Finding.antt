@@ -1,13 +1,17 @@
 -- What a command finds in its files, one after another. `Holds` says which bytes the files hold.
-use Rattle.std.specs.Prelude.{◌≡◌, ⊤, ℕ, ◌<◌, ◌≤◌, Option, Some, None, IfSome, List, [], ◌∷◌, length, Result, Ok, Err}
+use Rattle.std.specs.Prelude.{◌≡◌, ℕ, ◌<◌, ◌≤◌, Option, Some, IfSome, List, [], ◌∷◌, length, Result, Ok, Err}
 use Rattle.dom_io.specs.Causes.{Rose}
-use Rattle.trace_text.specs.Trace.{IsTraceOf, most_cycles}
+use Rattle.trace_text.specs.Trace.{IsTraceOf}
 use Rattle.dom_ast.specs.Resolved.{CheckedForm}
 use Rattle.dom_compile.specs.Programs.{most_program}
+use Rattle.banzai_config.specs.Parts.{PartsForm}
+use Rattle.banzai_config.specs.Targets.{shape_of}
+use Rattle.config_text.specs.Fronts.{text_of}
+use Rattle.dom_compile.specs.Answer.{IsCompileAnswer}
 use Rattle.dom_compile.specs.Verdict.{IsProgram}
-use Rattle.dom_finding.specs.Command.{Command, FileNames, run, serial}
-use Rattle.dom_finding.specs.FirstForm.{FormNames, IsForm}
-use Rattle.dom_finding.specs.Refusals.{no_form, refused_program, refused_trace}
+use Rattle.dom_finding.specs.Command.{Command, ConfigNames, compile, exec, run, serial, watch}
+use Rattle.dom_finding.specs.Configs.{ConfigForm, IsConfig}
+use Rattle.dom_finding.specs.Refusals.{refused_compile, refused_config, refused_program, refused_trace}
 use Rattle.dom_finding.specs.declared.refusals.Refusal.{Refusal}
 use Rattle.dom_finding.specs.declared.refusals.Refusal.TheVariants as refusal
 
@@ -15,10 +19,16 @@ use Rattle.dom_finding.specs.declared.refusals.Refusal.TheVariants as refusal
 abbrev pub Packets : Type 0
 Packets = List (ℕ × List ℕ)
 
--- what there is to do: clock the accumulator with these names over the packets, or run this program on them in turn
+-- what there is to do
 pub data Job : Type 0 where
-  clocked : FormNames → Packets → Job
+  -- clock a configuration over the packets
+  clocked : PartsForm → Packets → Job
+  -- and tell every cycle
+  watched : PartsForm → Packets → Job
+  -- run this program on the packets in turn
   in_turn : CheckedForm → Packets → Job
+  -- put this text
+  written : List ℕ → Job
 
 -- a command finds a job, or a refusal
 abbrev pub Finding : Type 0
@@ -32,19 +42,21 @@ pub record Ask : Type 0 where
   pub most : ℕ
   pub over : Refusal
 
--- the most bytes that a trace may have
+-- the most bytes that a trace may have, and a configuration
 abbrev pub most_trace : ℕ
 most_trace = 16777216
+
+abbrev pub most_config : ℕ
+most_config = 1048576
 
 abbrev pub program_file : List ℕ → Ask
 program_file name = record { name = name; most = most_program; over = refusal.ProgramLimit }
 
--- a longer text is not of the form that `run` takes
-abbrev pub form_file : List ℕ → Ask
-form_file name = record { name = name; most = most_program; over = refusal.NotBuilt }
-
 abbrev pub trace_file : List ℕ → Ask
 trace_file name = record { name = name; most = most_trace; over = refusal.TraceLimit }
+
+abbrev pub config_file : List ℕ → Ask
+config_file name = record { name = name; most = most_config; over = refusal.ConfigLimit }
 
 -- What comes next.
 
@@ -62,18 +74,34 @@ after_answer refuse go (Err fault) = found (Err (refuse fault))
 abbrev pub Gives : {X F : Type 0} → (Result X F → Type 0) → (F → Refusal) → (X → Next) → Next → Type 0
 Gives {X} {F} Is refuse go next = (answer : Result X F) × Is answer × (next ≡ after_answer refuse go answer)
 
+-- The steps of the commands over a configuration: its file, then what its parts give, which is the trace's file unless there is
+-- something against it, and then the packets of the trace, of which there is this job.
+abbrev pub IsNextOver : ConfigNames → (PartsForm → Next) → (PartsForm → Packets → Job) → List (List ℕ) → Next → Type 0
+IsNextOver names go job [] next = next ≡ ask (config_file names.config)
+IsNextOver names go job (config ∷ []) next = Gives (IsConfig config) refused_config (λ c. go c.parts) next
+IsNextOver names go job (trace ∷ config ∷ []) next =
+    (c : ConfigForm) × IsConfig config (Ok c) × Gives (IsTraceOf trace c.parts.fields (length c.parts.stages)) refused_trace (λ packets. found (Ok (job c.parts packets))) next
+IsNextOver names go job (third ∷ trace ∷ config ∷ more) next = ⊥
+
 -- after these texts, the newest first, each within its limit
 abbrev pub IsNext : Command → List (List ℕ) → Next → Type 0
-IsNext (run files) [] next = next ≡ ask (form_file files.program)
-IsNext (run files) (program ∷ []) next = Gives (IsForm program) no_form (λ n. ask (trace_file files.trace)) next
-IsNext (run files) (trace ∷ program ∷ []) next =
-    (n : FormNames) × IsForm program (Ok n) × Gives (IsTraceOf trace (n.added ∷ n.sum ∷ []) 4) refused_trace (λ packets. found (Ok (clocked n packets))) next
-IsNext (run files) (third ∷ trace ∷ program ∷ more) next = ⊥
+IsNext (run target files) [] next = next ≡ ask (program_file files.program)
+IsNext (run target files) (program ∷ []) next = Gives (IsCompileAnswer (shape_of target) program) refused_compile (λ parts. ask (trace_file files.trace)) next
+IsNext (run target files) (trace ∷ program ∷ []) next =
+    (parts : PartsForm) × IsCompileAnswer (shape_of target) program (Ok parts)
+    × Gives (IsTraceOf trace parts.fields (length parts.stages)) refused_trace (λ packets. found (Ok (clocked parts packets))) next
+IsNext (run target files) (third ∷ trace ∷ program ∷ more) next = ⊥
 IsNext (serial files) [] next = next ≡ ask (program_file files.program)
 IsNext (serial files) (program ∷ []) next = Gives (IsProgram program) refused_program (λ c. ask (trace_file files.trace)) next
 IsNext (serial files) (trace ∷ program ∷ []) next =
     (c : CheckedForm) × IsProgram program (Ok c) × Gives (IsTraceOf trace c.fields 0) refused_trace (λ packets. found (Ok (in_turn c packets))) next
 IsNext (serial files) (third ∷ trace ∷ program ∷ more) next = ⊥
+IsNext (compile target name) [] next = next ≡ ask (program_file name)
+IsNext (compile target name) (program ∷ []) next =
+    Gives (IsCompileAnswer (shape_of target) program) refused_compile (λ parts. found (Ok (written (text_of target parts)))) next
+IsNext (compile target name) (second ∷ program ∷ more) next = ⊥
+IsNext (exec names) texts next = IsNextOver names (λ parts. ask (trace_file names.trace)) clocked texts next
+IsNext (watch names) texts next = IsNextOver names (λ parts. ask (trace_file names.trace)) watched texts next
 
 -- Which bytes a file holds.
 

@@ -1,9 +1,7 @@
 pub mod Command
 pub mod CommandForm
+pub mod Configs
 pub mod Files
 pub mod Finding
-pub mod FirstForm
-pub mod FormNames
 pub mod Refusals
-pub mod Runs
 pub mod Stops

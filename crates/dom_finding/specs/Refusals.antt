@@ -11,7 +11,13 @@ use Rattle.dom_checks.specs.declared.faults.CheckFault.{CheckFault}
 use Rattle.dom_checks.specs.declared.faults.CheckFault.TheVariants as check
 use Rattle.dom_checks.specs.declared.faults.Limit.TheVariants as limit
 use Rattle.trace_text.specs.Trace as told
+use Rattle.banzai_config.specs.declared.fault.ConfigKind.{ConfigKind}
+use Rattle.banzai_config.specs.declared.fault.ConfigKind.TheVariants as rule
+use Rattle.codelets.specs.declared.codelet.Kind.{Kind}
+use Rattle.codelets.specs.declared.codelet.Kind.TheVariants.{Stateless, Stateful}
 use Rattle.dom_compile.specs.Verdict.{ProgramFault, of_bytes, of_names, of_tokens}
+use Rattle.dom_compile.specs.Answer.{CompileRefusal, full, ill_formed, outside, too_deep, too_many}
+use Rattle.dom_finding.specs.Configs.{ConfigRefusal, bad_line, illegal, unknown_target}
 use Rattle.dom_finding.specs.declared.refusals.Refusal.{Refusal}
 use Rattle.dom_finding.specs.declared.refusals.Refusal.TheVariants as refusal
 
@@ -48,6 +54,30 @@ check_line (check.TooLarge limit.Length at) = placed (codes "refused,check,too-l
 check_line (check.TooLarge limit.Words at) = placed (codes "refused,check,too-large-words") (at ∷ [])
 check_line check.Memory = []
 
+abbrev pub kind_text : Kind → List ℕ
+kind_text Stateless = codes "stateless"
+kind_text Stateful = codes "stateful"
+
+-- a codelet, and a stage that is full of a kind
+abbrev pub full_line : ℕ → Kind → ℕ → List ℕ
+full_line codelet kind stage = line_of (codes "refused,full" ∷ count_text codelet ∷ kind_text kind ∷ count_text stage ∷ [])
+
+-- the rule of a configuration that is broken
+abbrev pub rule_text : ConfigKind → List ℕ
+rule_text rule.Depth = codes "refused,config,depth"
+rule_text rule.Width = codes "refused,config,width"
+rule_text rule.BadNumber = codes "refused,config,bad-number"
+rule_text rule.MulOperator = codes "refused,config,mul-operator"
+rule_text rule.WideConstant = codes "refused,config,wide-constant"
+rule_text rule.Pattern = codes "refused,config,pattern"
+rule_text rule.ArrayTwice = codes "refused,config,array-twice"
+rule_text rule.ReadBeforeWrite = codes "refused,config,read-before-write"
+rule_text rule.ContainerTwice = codes "refused,config,container-twice"
+
+-- with its stage and its atom
+abbrev pub rule_line : ConfigKind → ℕ → ℕ → List ℕ
+rule_line kind stage atom = placed (rule_text kind) (stage ∷ atom ∷ [])
+
 abbrev pub trace_line : TraceFault → List ℕ
 trace_line trace.NoHeader = placed (codes "refused,trace,no-header") []
 trace_line (trace.UnknownColumn c) = placed (codes "refused,trace,unknown-column") (c ∷ [])
@@ -62,21 +92,37 @@ abbrev pub words_line : List ℕ
 words_line = codes "refused,words\n"
 
 abbrev pub refusal_line : Refusal → List ℕ
-refusal_line refusal.NotBuilt = placed (codes "refused,not-built") []
 refusal_line refusal.ProgramLimit = placed (codes "refused,limit,program") []
 refusal_line (refusal.Lex fault) = lex_line fault
 refusal_line (refusal.Parse fault) = parse_line fault
 refusal_line (refusal.Check fault) = check_line fault
+refusal_line (refusal.Statements n) = placed (codes "refused,statements") (n ∷ [])
+refusal_line (refusal.Outside codelet) = placed (codes "refused,outside") (codelet ∷ [])
+refusal_line (refusal.Deep chain) = placed (codes "refused,deep") chain
+refusal_line (refusal.Full codelet kind stage) = full_line codelet kind stage
+refusal_line refusal.ConfigLimit = placed (codes "refused,limit,config") []
+refusal_line (refusal.ConfigLine n) = placed (codes "refused,config,line") (n ∷ [])
+refusal_line refusal.UnknownTarget = placed (codes "refused,config,unknown-target") []
+refusal_line (refusal.Config kind stage atom) = rule_line kind stage atom
+refusal_line (refusal.Stage depth) = placed (codes "refused,stage") (depth ∷ [])
 refusal_line refusal.TraceLimit = placed (codes "refused,limit,trace") []
 refusal_line (refusal.Trace fault) = trace_line fault
 
--- the program is refused with 1, and the trace with 3
+-- the program is refused with 1, and what else a command is given with 3
 abbrev pub refusal_status : Refusal → ℕ
-refusal_status refusal.NotBuilt = 1
 refusal_status refusal.ProgramLimit = 1
 refusal_status (refusal.Lex fault) = 1
 refusal_status (refusal.Parse fault) = 1
 refusal_status (refusal.Check fault) = 1
+refusal_status (refusal.Statements n) = 1
+refusal_status (refusal.Outside codelet) = 1
+refusal_status (refusal.Deep chain) = 1
+refusal_status (refusal.Full codelet kind stage) = 1
+refusal_status refusal.ConfigLimit = 3
+refusal_status (refusal.ConfigLine n) = 3
+refusal_status refusal.UnknownTarget = 3
+refusal_status (refusal.Config kind stage atom) = 3
+refusal_status (refusal.Stage depth) = 3
 refusal_status refusal.TraceLimit = 3
 refusal_status (refusal.Trace fault) = 3
 
@@ -99,6 +145,15 @@ refused_program (of_bytes fault) = refusal.Lex fault
 refused_program (of_tokens fault) = refusal.Parse fault
 refused_program (of_names fault) = refusal.Check fault
 
--- a program of another form than the one that `run` takes
-abbrev pub no_form : Unit {0} → Refusal
-no_form none = refusal.NotBuilt
+-- a program without a configuration for the target
+abbrev pub refused_compile : CompileRefusal → Refusal
+refused_compile (ill_formed fault) = refused_program fault
+refused_compile (too_many n) = refusal.Statements n
+refused_compile (outside codelet) = refusal.Outside codelet
+refused_compile (too_deep chain) = refusal.Deep chain
+refused_compile (full codelet kind stage) = refusal.Full codelet kind stage
+
+abbrev pub refused_config : ConfigRefusal → Refusal
+refused_config (bad_line n) = refusal.ConfigLine n
+refused_config unknown_target = refusal.UnknownTarget
+refused_config (illegal v) = refusal.Config v.kind v.stage v.atom

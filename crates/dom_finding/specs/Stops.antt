@@ -1,6 +1,7 @@
 -- Why a command stops before it puts anything.
-use Rattle.std.specs.Prelude.{◌≡◌, ⊤, ℕ, ◌<◌, ◌≤◌, Option, List, length, Result, Err}
+use Rattle.std.specs.Prelude.{◌≡◌, ⊤, ℕ, ◌<◌, ◌≤◌, ◌⊎◌, Option, List, length, Result, Err}
 use Rattle.dom_io.specs.Causes.{Rose}
+use Rattle.trace_text.specs.Trace.{IsTraceOf}
 use Rattle.trace_text.specs.declared.trace.TraceFault.{TraceFault}
 use Rattle.trace_text.specs.declared.trace.TraceFault.TheVariants as fault
 use Rattle.dom_lexer.specs.declared.token.LexFault.{LexFault}
@@ -9,8 +10,15 @@ use Rattle.dom_parser.specs.declared.faults.ParseFault.{ParseFault}
 use Rattle.dom_parser.specs.declared.faults.ParseFault.TheVariants as parse
 use Rattle.dom_checks.specs.declared.faults.CheckFault.{CheckFault}
 use Rattle.dom_checks.specs.declared.faults.CheckFault.TheVariants as check
+use Rattle.banzai_config.specs.declared.fault.ConfigFault.{ConfigFault}
+use Rattle.banzai_config.specs.declared.fault.ConfigFault.TheVariants as illegal
+use Rattle.config_text.specs.declared.fault.ReadFault.{ReadFault}
+use Rattle.config_text.specs.declared.fault.ReadFault.TheVariants as read
+use Rattle.dom_compile.specs.declared.faults.CompileFault.{CompileFault}
+use Rattle.dom_compile.specs.declared.faults.CompileFault.TheVariants as compile
 use Rattle.dom_finding.specs.Command.{Command}
 use Rattle.dom_finding.specs.Finding.{Ask, IsFoundAfter, IsUnreadAfter, MayHold}
+use Rattle.dom_finding.specs.Refusals.{refused_trace}
 use Rattle.dom_finding.specs.declared.reading.Stop.{Stop}
 use Rattle.dom_finding.specs.declared.reading.Stop.TheVariants.{Refused, Unread, Memory}
 use Rattle.dom_finding.specs.declared.refusals.Refusal.{Refusal}
@@ -24,6 +32,10 @@ AreKept before now = (name : List ℕ) → now name ≡ before name
 abbrev pub HaveNotFallen : (List ℕ → ℕ) → (List ℕ → ℕ) → Type 0
 HaveNotFallen before now = (name : List ℕ) → before name ≤ now name
 
+-- a text that the file may hold, within its limit
+abbrev pub IsText : (List ℕ → Option (List ℕ)) → Ask → List ℕ → Type 0
+IsText files a text = MayHold files a.name text × (length text ≤ a.most)
+
 -- a file gave no text within its limit: it is longer, it could not be read, or memory is wanting
 abbrev pub FileStop : (List ℕ → Option (List ℕ)) → (List ℕ → ℕ) → (List ℕ → ℕ) → Ask → Stop → Type 0
 FileStop files before now a (Refused r) =
@@ -36,6 +48,12 @@ abbrev pub TextStop : {X F : Type 0} → (Result X F → Type 0) → (F → Refu
 TextStop {X} {F} Is refuse (Refused r) = (fault : F) × Is (Err fault) × (r ≡ refuse fault)
 TextStop {X} {F} Is refuse Unread = ⊥
 TextStop {X} {F} Is refuse Memory = ⊤
+
+-- a trace stops a command: its file gave no text, or the text is no trace for these fields and this depth
+abbrev pub TraceStop : (List ℕ → Option (List ℕ)) → (List ℕ → ℕ) → (List ℕ → ℕ) → Ask → List (List ℕ) → ℕ → Stop → Type 0
+TraceStop files before now a fields depth stop =
+    FileStop files before now a stop
+    ⊎ ((text : List ℕ) × IsText files a text × AreKept before now × TextStop (IsTraceOf text fields depth) refused_trace stop)
 
 -- why there is nothing to put, after these texts: what was found, a file that could not be read, or want of memory
 abbrev pub StopAfter : Command → List (List ℕ) → (List ℕ → Option (List ℕ)) → (List ℕ → ℕ) → (List ℕ → ℕ) → Stop → Type 0
@@ -77,3 +95,23 @@ stop_of_check (check.IndexAssignedLater at) = Refused (refusal.Check (check.Inde
 stop_of_check (check.HashArgs at) = Refused (refusal.Check (check.HashArgs at))
 stop_of_check (check.TooLarge limit at) = Refused (refusal.Check (check.TooLarge limit at))
 stop_of_check check.Memory = Memory
+
+abbrev pub stop_of_compile : CompileFault → Stop
+stop_of_compile (compile.Lex f) = Refused (refusal.Lex f)
+stop_of_compile (compile.Parse f) = Refused (refusal.Parse f)
+stop_of_compile (compile.Check f) = Refused (refusal.Check f)
+stop_of_compile (compile.TooManyStatements n) = Refused (refusal.Statements n)
+stop_of_compile (compile.Outside codelet) = Refused (refusal.Outside codelet)
+stop_of_compile (compile.TooDeep chain) = Refused (refusal.Deep chain)
+stop_of_compile (compile.Full codelet kind stage) = Refused (refusal.Full codelet kind stage)
+stop_of_compile compile.Memory = Memory
+
+-- a fault of a configuration refuses it, and want of memory stops
+abbrev pub stop_of_read : ReadFault → Stop
+stop_of_read (read.Line n) = Refused (refusal.ConfigLine n)
+stop_of_read read.UnknownTarget = Refused refusal.UnknownTarget
+stop_of_read read.Memory = Memory
+
+abbrev pub stop_of_config : ConfigFault → Stop
+stop_of_config (illegal.Refused kind stage atom) = Refused (refusal.Config kind stage atom)
+stop_of_config illegal.Memory = Memory

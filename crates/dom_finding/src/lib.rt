@@ -2,15 +2,16 @@
 #![tactic(auto)]
 
 mod command;
-pub mod first_form;
+mod configs;
 pub mod laws;
 mod reading;
 mod refusals;
 mod source;
 mod wanted;
 
-pub use command::{Command, Files, read_words};
-pub use reading::{Stop, form_file, packets_of, program_file, text_in, trace_file};
+pub use command::{Command, ConfigFiles, Files, read_words};
+pub use configs::{config_stop, parts_in};
+pub use reading::{Stop, config_file, packets_of, program_file, text_in, trace_file};
 pub use refusals::Refusal;
-pub use source::program_in;
+pub use source::{compile_stop, program_in};
 pub use wanted::WantedFile;

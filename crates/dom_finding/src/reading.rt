@@ -2,9 +2,9 @@ ghost use Rattle.std.specs.Prelude.{◌≡◌, ℕ, ◌+◌, ◌≤◌, List, Al
 ghost use Rattle.dom_io.specs.Reads.{ReadCause};
 ghost use Rattle.trace_text.specs.Trace.{IsTraceOf, cycles_of, most_cycles};
 ghost use Rattle.dom_finding.specs.Files.{ask_of};
-ghost use Rattle.dom_finding.specs.Finding.{MayHold, form_file as ask_form, program_file as ask_program, trace_file as ask_trace};
+ghost use Rattle.dom_finding.specs.Finding.{config_file as ask_config, program_file as ask_program, trace_file as ask_trace};
 ghost use Rattle.dom_finding.specs.Refusals.{refused_trace};
-ghost use Rattle.dom_finding.specs.Stops.{AreKept, FileStop, TextStop, trace_stop};
+ghost use Rattle.dom_finding.specs.Stops.{AreKept, FileStop, IsText, TextStop, trace_stop};
 
 use crate::refusals::Refusal;
 use crate::wanted::WantedFile;
@@ -19,8 +19,11 @@ const MOST_PROGRAM_BYTES: usize = 65536;
 // The most bytes that a trace may have.
 const MOST_TRACE_BYTES: usize = 16_777_216;
 
+// The most bytes that a configuration may have.
+const MOST_CONFIG_BYTES: usize = 1_048_576;
+
 /// Why a command stops before it puts anything.
-#[derive(Clone, Copy, Debug)]
+#[derive(Debug, Drop)]
 pub enum Stop {
     /// A file is refused.
     Refused(Refusal),
@@ -52,17 +55,6 @@ pub fn program_file(name: &str) -> WantedFile<'_>
     }
 }
 
-/// The file of a program for `run`: one that is longer is not of its form either.
-pub fn form_file(name: &str) -> WantedFile<'_>
-    ensures { ask_of result ≡ ask_form name.entry.now }
-{
-    WantedFile {
-        name,
-        most: MOST_PROGRAM_BYTES,
-        over: Refusal::NotBuilt,
-    }
-}
-
 /// The file of a trace, of at most 16,777,216 bytes.
 pub fn trace_file(name: &str) -> WantedFile<'_>
     ensures { ask_of result ≡ ask_trace name.entry.now }
@@ -74,14 +66,25 @@ pub fn trace_file(name: &str) -> WantedFile<'_>
     }
 }
 
+/// The file of a configuration, of at most 1,048,576 bytes.
+pub fn config_file(name: &str) -> WantedFile<'_>
+    ensures { ask_of result ≡ ask_config name.entry.now }
+{
+    WantedFile {
+        name,
+        most: MOST_CONFIG_BYTES,
+        over: Refusal::ConfigLimit,
+    }
+}
+
 /// The text of a file that is wanted: it is read once, up to one byte over its limit, and refused where it is longer.
 pub fn text_in<F: Shelf>(shelf: &mut F, file: WantedFile<'_>) -> Result<Vec<u8>, Stop>
-    ensures text { IfOk result (λ v. MayHold (F.content shelf.old) (ask_of file.entry).name v.items × (length v.items ≤ (ask_of file.entry).most)) }
+    ensures text { IfOk result (λ v. IsText (F.content shelf.old) (ask_of file.entry) v.items) }
     ensures stop { IfErr result (FileStop (F.content shelf.old) (F.faults shelf.old) (F.faults shelf.new) (ask_of file.entry)) }
     ensures kept { OnOk result (AreKept (F.faults shelf.old) (F.faults shelf.new)) }
     ensures files { (name : List ℕ) → F.content shelf.new name ≡ F.content shelf.old name }
 {
-    match first_of(shelf, file) {
+    match first_of(shelf, &file) {
         Ok(text) => {
             if text.len() > file.most {
                 return Err(Stop::Refused(file.over));
@@ -94,10 +97,10 @@ pub fn text_in<F: Shelf>(shelf: &mut F, file: WantedFile<'_>) -> Result<Vec<u8>,
 }
 
 // The first bytes of a file that is wanted, one more than it may have.
-fn first_of<F: Shelf>(shelf: &mut F, file: WantedFile<'_>) -> Result<Vec<u8>, ShelfFault>
-    ensures bytes { IfOk result (λ v. IfSome (F.content shelf.old file.entry.name.now) (λ bytes. v.items ≡ take (file.entry.most + 1) bytes)) }
-    ensures few { IfOk result (λ v. vec_len v ≤ file.entry.most + 1) }
-    ensures cause { ReadCause (F.faults shelf.old) (F.faults shelf.new) file.entry.name.now result }
+fn first_of<F: Shelf>(shelf: &mut F, file: &WantedFile<'_>) -> Result<Vec<u8>, ShelfFault>
+    ensures bytes { IfOk result (λ v. IfSome (F.content shelf.old file.now.name.now) (λ bytes. v.items ≡ take (file.now.most + 1) bytes)) }
+    ensures few { IfOk result (λ v. vec_len v ≤ file.now.most + 1) }
+    ensures cause { ReadCause (F.faults shelf.old) (F.faults shelf.new) file.now.name.now result }
     ensures files { (name : List ℕ) → F.content shelf.new name ≡ F.content shelf.old name }
 {
     shelf.read(file.name, file.most + 1)

@@ -1,24 +1,25 @@
-ghost use Rattle.std.specs.Prelude.{◌≡◌, ◌<◌, ◌++◌, ◌∷◌, [], IfOk, length, map};
+ghost use Rattle.std.specs.Prelude.{◌≡◌, ◌<◌, ◌++◌, ◌∷◌, [], IfOk, OnOk, codes, length, map};
 ghost use Rattle.trace_text.specs.Lines.{after_commas, count_text};
-ghost use Rattle.dom_finding.specs.Refusals.{check_line as line_of_check, lex_line as line_of_lex, parse_line as line_of_parse, placed, refusal_line, refusal_status, trace_line as line_of_trace};
+ghost use Rattle.dom_finding.specs.Refusals.{check_line as line_of_check, full_line as line_of_full, kind_text, lex_line as line_of_lex, parse_line as line_of_parse, placed, rule_line as line_of_rule, rule_text, refusal_line, refusal_status, trace_line as line_of_trace};
 
+use banzai_config::ConfigKind;
+use codelets::Kind;
 use dom_checks::{CheckFault, Limit};
 use dom_lexer::LexFault;
 use dom_parser::ParseFault;
 use dom_words::Memory;
 use itoa::Buffer;
+use stage_plan::Chain;
 use std::alloc::Global;
 use trace_text::TraceFault;
 
 const PROGRAM_REFUSED: u8 = 1;
 
-const TRACE_REFUSED: u8 = 3;
+const INPUT_REFUSED: u8 = 3;
 
 /// Why a command is refused (docs/FORMATS.md).
-#[derive(Clone, Copy, Debug)]
+#[derive(Debug, Drop)]
 pub enum Refusal {
-    /// The program is not of the form that `run` takes.
-    NotBuilt,
     /// The program is too long.
     ProgramLimit,
     /// The program's text has no tokens.
@@ -27,6 +28,32 @@ pub enum Refusal {
     Parse(ParseFault),
     /// The program is not well formed.
     Check(CheckFault),
+    /// The program has so many statements, and they are more than 512.
+    Statements(u32),
+    /// A codelet does not fit the target: the least number of its statements.
+    Outside(u32),
+    /// Codelets of which each uses the one before it are more than the target has stages.
+    Deep(Chain),
+    /// A codelet finds no place: the least number of its statements, and a stage that is full.
+    Full {
+        codelet: u32,
+        kind: Kind,
+        stage: u32,
+    },
+    /// The configuration is too long.
+    ConfigLimit,
+    /// The first line of a configuration that may not stand, from 1.
+    ConfigLine(u32),
+    /// No target has the name in the configuration.
+    UnknownTarget,
+    /// The first rule that the configuration breaks, with its stage and its atom.
+    Config {
+        kind: ConfigKind,
+        stage: u32,
+        atom: u32,
+    },
+    /// The configuration has only so many stages.
+    Stage(u32),
     /// The trace is too long.
     TraceLimit,
     /// The trace's text is no trace.
@@ -35,32 +62,59 @@ pub enum Refusal {
 
 impl Refusal {
     /// The status with which a refused call ends.
-    pub fn status(self) -> u8
-        ensures { result ≡ refusal_status self }
+    pub fn status(&self) -> u8
+        ensures { result ≡ refusal_status self.now }
     {
         match self {
-            Refusal::NotBuilt
-            | Refusal::ProgramLimit
+            Refusal::ProgramLimit
             | Refusal::Lex(_)
             | Refusal::Parse(_)
+            | Refusal::Statements(_)
+            | Refusal::Outside(_)
+            | Refusal::Deep(_)
+            | Refusal::Full { .. }
             | Refusal::Check(_) => PROGRAM_REFUSED,
-            Refusal::TraceLimit | Refusal::Trace(_) => TRACE_REFUSED,
+            Refusal::ConfigLimit
+            | Refusal::ConfigLine(_)
+            | Refusal::UnknownTarget
+            | Refusal::Config { .. }
+            | Refusal::Stage(_)
+            | Refusal::TraceLimit
+            | Refusal::Trace(_) => INPUT_REFUSED,
         }
     }
 
     /// The line that is put. Want of memory has no line.
-    pub fn line(self, alloc: Global) -> Result<Vec<u8>, Memory>
-        ensures line { IfOk result (λ line. line.items ≡ refusal_line self) }
+    pub fn line(&self, alloc: Global) -> Result<Vec<u8>, Memory>
+        ensures line { IfOk result (λ line. line.items ≡ refusal_line self.now) }
         ensures some { IfOk result (λ line. 0 < length line.items) }
     {
         match self {
-            Refusal::NotBuilt => placed_line(alloc, "refused,not-built", &[]),
             Refusal::ProgramLimit => placed_line(alloc, "refused,limit,program", &[]),
-            Refusal::Lex(fault) => lex_line(alloc, fault),
-            Refusal::Parse(fault) => parse_line(alloc, fault),
-            Refusal::Check(fault) => check_line(alloc, fault),
+            Refusal::Lex(fault) => lex_line(alloc, *fault),
+            Refusal::Parse(fault) => parse_line(alloc, *fault),
+            Refusal::Check(fault) => check_line(alloc, *fault),
+            Refusal::Statements(count) => {
+                placed_line(alloc, "refused,statements", &[u64::from(*count)])
+            }
+            Refusal::Outside(codelet) => {
+                placed_line(alloc, "refused,outside", &[u64::from(*codelet)])
+            }
+            Refusal::Deep(chain) => deep_line(alloc, chain),
+            Refusal::Full {
+                codelet,
+                kind,
+                stage,
+            } => full_line(alloc, *codelet, *kind, *stage),
+            Refusal::ConfigLimit => placed_line(alloc, "refused,limit,config", &[]),
+            Refusal::ConfigLine(n) => {
+                placed_line(alloc, "refused,config,line", &[u64::from(*n)])
+            }
+            Refusal::UnknownTarget => placed_line(alloc, "refused,config,unknown-target", &[]),
+            Refusal::Config { kind, stage, atom } => rule_line(alloc, *kind, *stage, *atom),
+            Refusal::Stage(depth) => placed_line(alloc, "refused,stage", &[u64::from(*depth)]),
             Refusal::TraceLimit => placed_line(alloc, "refused,limit,trace", &[]),
-            Refusal::Trace(fault) => trace_line(alloc, fault),
+            Refusal::Trace(fault) => trace_line(alloc, *fault),
         }
     }
 }
@@ -123,6 +177,69 @@ fn too_large_line(alloc: Global, limit: Limit, at: u32) -> Result<Vec<u8>, Memor
     placed_line(alloc, words, &[u64::from(at)])
 }
 
+// The line of a chain that is longer than the pipeline is deep.
+fn deep_line(alloc: Global, chain: &Chain) -> Result<Vec<u8>, Memory>
+    ensures line { IfOk result (λ line. line.items ≡ placed (codes "refused,deep") chain.now) }
+    ensures some { IfOk result (λ line. 0 < length line.items) }
+{
+    let mut line = Vec::from_slice(alloc, b"refused,deep").map_err(|_| Memory)?;
+    for codelet in chain.as_slice() {
+        push_number(&mut line, u64::from(*codelet))?;
+    }
+    line.push(b'\n').map_err(|_| Memory)?;
+    Ok(line)
+}
+
+// The line of a codelet that finds no place, with the kind and the stage that is full of it.
+fn full_line(alloc: Global, codelet: u32, kind: Kind, stage: u32) -> Result<Vec<u8>, Memory>
+    ensures line { IfOk result (λ line. line.items ≡ line_of_full codelet kind stage) }
+    ensures some { IfOk result (λ line. 0 < length line.items) }
+{
+    let mut line = Vec::from_slice(alloc, b"refused,full").map_err(|_| Memory)?;
+    push_number(&mut line, u64::from(codelet))?;
+    push_word(&mut line, kind_word(kind))?;
+    push_number(&mut line, u64::from(stage))?;
+    line.push(b'\n').map_err(|_| Memory)?;
+    Ok(line)
+}
+
+fn kind_word(kind: Kind) -> &'static str
+    ensures { result.now ≡ kind_text kind }
+{
+    match kind {
+        Kind::Stateless => "stateless",
+        Kind::Stateful => "stateful",
+    }
+}
+
+// The line of a rule that a configuration breaks.
+fn rule_line(alloc: Global, kind: ConfigKind, stage: u32, atom: u32) -> Result<Vec<u8>, Memory>
+    ensures line { IfOk result (λ line. line.items ≡ line_of_rule kind stage atom) }
+    ensures some { IfOk result (λ line. 0 < length line.items) }
+{
+    placed_line(
+        alloc,
+        rule_words(kind),
+        &[u64::from(stage), u64::from(atom)],
+    )
+}
+
+fn rule_words(kind: ConfigKind) -> &'static str
+    ensures { result.now ≡ rule_text kind }
+{
+    match kind {
+        ConfigKind::Depth => "refused,config,depth",
+        ConfigKind::Width => "refused,config,width",
+        ConfigKind::BadNumber => "refused,config,bad-number",
+        ConfigKind::MulOperator => "refused,config,mul-operator",
+        ConfigKind::WideConstant => "refused,config,wide-constant",
+        ConfigKind::Pattern => "refused,config,pattern",
+        ConfigKind::ArrayTwice => "refused,config,array-twice",
+        ConfigKind::ReadBeforeWrite => "refused,config,read-before-write",
+        ConfigKind::ContainerTwice => "refused,config,container-twice",
+    }
+}
+
 fn trace_line(alloc: Global, fault: TraceFault) -> Result<Vec<u8>, Memory>
     ensures line { IfOk result (λ line. line.items ≡ line_of_trace fault) }
     ensures some { IfOk result (λ line. 0 < length line.items) }
@@ -155,11 +272,26 @@ fn placed_line(alloc: Global, words: &str, numbers: &[u64]) -> Result<Vec<u8>, M
 {
     let mut line = Vec::from_slice(alloc, words.as_bytes()).map_err(|_| Memory)?;
     for number in numbers {
-        line.push(b',').map_err(|_| Memory)?;
-        let mut digits = Buffer::new();
-        line.extend_from_slice(digits.format(*number).as_bytes())
-            .map_err(|_| Memory)?;
+        push_number(&mut line, *number)?;
     }
     line.push(b'\n').map_err(|_| Memory)?;
     Ok(line)
+}
+
+// A comma and a number at the end of a line.
+fn push_number(line: &mut Vec<u8>, number: u64) -> Result<(), Memory>
+    ensures { OnOk result (line.new.items ≡ line.old.items ++ 44 ∷ count_text number) }
+{
+    line.push(b',').map_err(|_| Memory)?;
+    let mut digits = Buffer::new();
+    line.extend_from_slice(digits.format(number).as_bytes())
+        .map_err(|_| Memory)
+}
+
+// A comma and a word at the end of a line.
+fn push_word(line: &mut Vec<u8>, word: &str) -> Result<(), Memory>
+    ensures { OnOk result (line.new.items ≡ line.old.items ++ 44 ∷ word.now) }
+{
+    line.push(b',').map_err(|_| Memory)?;
+    line.extend_from_slice(word.as_bytes()).map_err(|_| Memory)
 }

@@ -3,12 +3,13 @@ ghost use Rattle.dom_ast.specs.CheckedForm.{checked_form};
 ghost use Rattle.dom_compile.specs.Programs.{IsWellFormed};
 ghost use Rattle.dom_compile.specs.Verdict.{IsProgram};
 ghost use Rattle.dom_finding.specs.Refusals.{refused_program};
-ghost use Rattle.dom_finding.specs.Stops.{TextStop, stop_of_check, stop_of_lex, stop_of_parse};
+ghost use Rattle.dom_finding.specs.Stops.{TextStop, stop_of_check, stop_of_compile, stop_of_lex, stop_of_parse};
 
 use crate::reading::Stop;
 use crate::refusals::Refusal;
 use dom_ast::Checked;
 use dom_checks::{CheckFault, check};
+use dom_compile::CompileFault;
 use dom_lexer::{LexFault, lex};
 use dom_parser::{ParseFault, parse};
 use std::alloc::Global;
@@ -58,5 +59,29 @@ fn check_stop(fault: CheckFault) -> Stop
     match fault {
         CheckFault::Memory => Stop::Memory,
         _ => Stop::Refused(Refusal::Check(fault)),
+    }
+}
+
+/// Why a fault of the compiler stops a command.
+pub fn compile_stop(fault: CompileFault) -> Stop
+    ensures { result ≡ stop_of_compile fault }
+{
+    match fault {
+        CompileFault::Lex(fault) => Stop::Refused(Refusal::Lex(fault)),
+        CompileFault::Parse(fault) => Stop::Refused(Refusal::Parse(fault)),
+        CompileFault::Check(fault) => Stop::Refused(Refusal::Check(fault)),
+        CompileFault::TooManyStatements(count) => Stop::Refused(Refusal::Statements(count)),
+        CompileFault::Outside(codelet) => Stop::Refused(Refusal::Outside(codelet)),
+        CompileFault::TooDeep(chain) => Stop::Refused(Refusal::Deep(chain)),
+        CompileFault::Full {
+            codelet,
+            kind,
+            stage,
+        } => Stop::Refused(Refusal::Full {
+            codelet,
+            kind,
+            stage,
+        }),
+        CompileFault::Memory => Stop::Memory,
     }
 }

@@ -3,7 +3,7 @@ ghost use Rattle.std.specs.Prelude.{◌≤◌};
 use crate::refusals::Refusal;
 
 /// A file that a command wants.
-#[derive(Clone, Copy, Debug)]
+#[derive(Debug, Drop)]
 pub struct WantedFile<'a> {
     /// Its name.
     pub(crate) name: &'a str,

@@ -1,26 +1,22 @@
 -- A serial run, packet by packet, and its report, line by line.
-use Rattle.std.proofs.Common.{◌≡◌, ℕ, zero, suc, ◌+◌, ◌<◌, Bool, true, false, List, [], ◌∷◌, ◌++◌, length, map, take, drop, fold, get_or, refl, sym, ap, ◌∙◌, subst, append_assoc, append-nil, arith, Option, Some, None, Result, Ok, Err, codes, IsSomeAnd, slice_get, if◌then◌else◌}
+use Rattle.std.proofs.Common.{◌≡◌, ℕ, zero, suc, ◌+◌, ◌<◌, List, [], ◌∷◌, ◌++◌, length, map, take, drop, get_or, refl, sym, ap, ◌∙◌, subst, append_assoc, append-nil, arith, Option, Some, None, Result, codes, IsSomeAnd, slice_get}
 use Rattle.std.proofs.Math.Seq.{take-length}
-use Rattle.std.proofs.lemmas.List.{length-map, map-append, take-append-drop, take_more, length-set, length-take}
-use Rattle.std.specs.List.{filter}
+use Rattle.std.proofs.lemmas.List.{length-map, map-append, take-append-drop, take_more, length-take}
 use Rattle.dom_io.specs.Held.{IsPart, Puts, appended}
 use Rattle.dom_io.specs.declared.sink.SinkFault.{SinkFault}
-use Rattle.dom_words.specs.Operators.{is_true}
 use Rattle.dom_words.specs.State.{Hash, IsStateOf, array_of, started}
 use Rattle.dom_words.specs.declared.array.Array.{Array}
 use Rattle.trace_text.specs.Lines.{done_line, head_line, name_at, packet_line}
-use Rattle.dom_ast.specs.Meaning.{Env, acted, all_acted, all_chosen, assigned, entering, is_chosen, one, serial_arrays, serial_packets, value_in}
-use Rattle.dom_ast.specs.Resolved.{ActForm, ActForms, BodyForm, CheckedForm, act, assign, branch, no_acts}
+use Rattle.dom_ast.specs.Meaning.{one, serial_arrays, serial_packets}
+use Rattle.dom_ast.specs.Resolved.{BodyForm, CheckedForm}
 use Rattle.dom_ast.specs.Serial.{IsPlaceOf}
-use Rattle.dom_ast.specs.declared.part.Goal.{Goal}
-use Rattle.dom_ast.specs.declared.part.Goal.TheVariants as goal
 use Rattle.trace_text.specs.Lines.{joined}
 use Rattle.dom_report.specs.SerialReport.{array_lines, end_lines, numbered, serial_report, state_lines, word_lines}
 use Rattle.dom_report.specs.Turns.{RanInTurn, lines_in_turn}
 use Rattle.dom_report.proofs.Parts.{part_after, part_before, put_then}
 use Rattle.dom_report.proofs.Reports.{puts_after}
 
-joined-append : (a b : List (List ℕ)) → joined (a ++ b) ≡ joined a ++ joined b
+pub joined-append : (a b : List (List ℕ)) → joined (a ++ b) ≡ joined a ++ joined b
 joined-append [] b = refl
 joined-append (line ∷ a) b = ap (λ l. line ++ l) (joined-append a b) ∙ sym (append_assoc line (joined a) (joined b))
 

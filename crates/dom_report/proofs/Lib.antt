@@ -1,7 +1,12 @@
-pub mod Clocked
+pub mod ClockedPackets
+pub mod Cycles
+pub mod Draws
+pub mod DrivenEnd
+pub mod DrivenLines
 pub mod InTurn
 pub mod Packets
 pub mod Parts
 pub mod Reports
-mod Sample
-pub mod Serial
+pub mod Summaries
+pub mod WatchEnd
+pub mod WatchParts

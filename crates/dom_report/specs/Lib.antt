@@ -1,5 +1,9 @@
-pub mod Accumulator
 pub mod Clocking
+pub mod Driving
+pub mod Folding
 pub mod Report
+pub mod RunReport
+pub mod SelfRun
 pub mod SerialReport
 pub mod Turns
+pub mod WatchReport

@@ -1,73 +1,136 @@
-ghost use Rattle.std.specs.Prelude.{◌≡◌, ◌+◌, ◌<◌, ◌≤◌, ◌^◌, [], ◌∷◌, ◌++◌, None, Some, OnOk, OnErr, replicate};
+ghost use Rattle.std.specs.Prelude.{◌≡◌, ◌+◌, ◌<◌, ◌^◌, ◌++◌, [], ◌∷◌, All, IfOk, None, OnErr, OnOk, Some, length, replicate};
+ghost use Rattle.std.specs.Option.{option_map};
+ghost use Rattle.banzai_machine.specs.Pipe.{drain};
+ghost use Rattle.banzai_machine.specs.State.{HasWords};
 ghost use Rattle.dom_io.specs.Causes.{HasCause};
-ghost use Rattle.dom_report.specs.Clocking.{Ran, lines_from};
-ghost use Rattle.dom_io.specs.Held.{IsPart};
+ghost use Rattle.dom_report.specs.Clocking.{ClockedOver, StoppedIn};
+ghost use Rattle.trace_text.specs.Trace.{cycles_of, entries};
 
-use crate::machine::Machine;
+use crate::clocked::Clocked;
+use crate::each_cycle::EachCycle;
+use crate::entering::Packets;
 use dom_io::{Sink, SinkFault};
-use trace_text::Lines;
+use dom_words::{HashUnits, Packet};
 
-/// Clocks the idle cycles before a packet, and the cycle in which it enters.
-pub(crate) fn put_packet<S: Sink>(
-    machine: &mut Machine,
-    cycle: u64,
-    gap: u32,
-    words: [u32; 2],
-    lines: &mut Lines,
+/// Clocks over the packets with their idle cycles and over the drain, and does after each cycle what is to be done. Answers
+/// the number of cycles. `entering` and `leaving` have a word for each field.
+pub(crate) fn clock<M: Clocked, P: Packets, A: EachCycle<M>, H: HashUnits, S: Sink>(
+    machine: &mut M,
+    packets: &mut P,
+    action: &mut A,
+    hash: &H,
     sink: &mut S,
-) -> Result<(), SinkFault>
-    requires words { 2 ≤ lines.old.words }
-    requires few { cycle + gap < 2 ^ 64 }
-    ensures ran { OnOk result (Ran machine.old machine.new (S.held sink.old) (S.held sink.new) cycle (replicate gap None ++ Some words ∷ [])) }
-    ensures part { OnErr result (IsPart (S.held sink.old) (S.held sink.new) (lines_from machine.old cycle (replicate gap None ++ Some words ∷ []))) }
+    entering: &mut Packet,
+    leaving: &mut Packet,
+) -> Result<u64, SinkFault>
+    requires fits { A.fits action.old (M.machine machine.old).config }
+    requires each { All (λ p. length p.1 ≡ length (M.machine machine.old).config.fields) (P.rest packets.old) }
+    requires entering { length entering.old ≡ length (M.machine machine.old).config.fields }
+    requires leaving { length leaving.old ≡ length (M.machine machine.old).config.fields }
+    requires cycles { cycles_of (P.rest packets.old) + length (M.machine machine.old).config.stages < 2 ^ 64 }
+    ensures clocked { OnOk result (ClockedOver A.bytes A.after (H.meaning hash.now) (M.machine machine.old) (M.machine machine.new) action.old action.new (S.held sink.old) (S.held sink.new) 0 (entries (P.rest packets.old) ++ drain (M.machine machine.old).config)) }
+    ensures stopped { OnErr result (StoppedIn A.bytes A.after (H.meaning hash.now) (M.machine machine.old) (M.machine machine.new) action.old (S.held sink.old) (S.held sink.new) 0 (entries (P.rest packets.old) ++ drain (M.machine machine.old).config)) }
     ensures cause { HasCause (S.faults sink.old) (S.faults sink.new) result }
-    ensures same { lines.new ≡ lines.old }
+    ensures cycles { IfOk result (λ cycles. cycles ≡ length (entries (P.rest packets.old) ++ drain (M.machine machine.old).config)) }
+    ensures config { (M.machine machine.new).config ≡ (M.machine machine.old).config }
 {
-    let Ok(()) = idle(machine, cycle, gap, lines, sink) else {
+    let mut number = 0u64;
+    while let Some(gap) = packets.next_packet(entering) {
+        let words = entering.words();
+        let Ok(()) = clock_packet(machine, number, gap, words, leaving, action, hash, sink) else {
+            return Err(SinkFault);
+        };
+        number += gap + 1;
+    }
+    let depth = machine.stages();
+    let Ok(()) = clock_idle(machine, number, depth, leaving, action, hash, sink) else {
         return Err(SinkFault);
     };
-    clock_once(machine, cycle + u64::from(gap), Some(words), lines, sink)
+    Ok(number + depth)
 }
 
-/// Clocks so many idle cycles.
-pub(crate) fn idle<S: Sink>(
-    machine: &mut Machine,
-    cycle: u64,
-    count: u32,
-    lines: &mut Lines,
+// The idle cycles before a packet, and the cycle in which it enters.
+fn clock_packet<M: Clocked, A: EachCycle<M>, H: HashUnits, S: Sink>(
+    machine: &mut M,
+    number: u64,
+    gap: u64,
+    words: &[u32],
+    leaving: &mut Packet,
+    action: &mut A,
+    hash: &H,
     sink: &mut S,
 ) -> Result<(), SinkFault>
-    requires words { 2 ≤ lines.old.words }
-    requires few { cycle + count < 2 ^ 64 }
-    ensures ran { OnOk result (Ran machine.old machine.new (S.held sink.old) (S.held sink.new) cycle (replicate count None)) }
-    ensures part { OnErr result (IsPart (S.held sink.old) (S.held sink.new) (lines_from machine.old cycle (replicate count None))) }
+    requires entering { length words.now ≡ length (M.machine machine.old).config.fields }
+    requires leaving { length leaving.old ≡ length (M.machine machine.old).config.fields }
+    requires fits { A.fits action.old (M.machine machine.old).config }
+    requires few { number + gap < 2 ^ 64 }
+    ensures clocked { OnOk result (ClockedOver A.bytes A.after (H.meaning hash.now) (M.machine machine.old) (M.machine machine.new) action.old action.new (S.held sink.old) (S.held sink.new) number (replicate gap None ++ Some words.now ∷ [])) }
+    ensures stopped { OnErr result (StoppedIn A.bytes A.after (H.meaning hash.now) (M.machine machine.old) (M.machine machine.new) action.old (S.held sink.old) (S.held sink.new) number (replicate gap None ++ Some words.now ∷ [])) }
     ensures cause { HasCause (S.faults sink.old) (S.faults sink.new) result }
-    ensures same { lines.new ≡ lines.old }
+    ensures config { (M.machine machine.new).config ≡ (M.machine machine.old).config }
+    ensures fits { A.fits action.new (M.machine machine.old).config }
+    ensures size { length leaving.new ≡ length leaving.old }
+{
+    let Ok(()) = clock_idle(machine, number, gap, leaving, action, hash, sink) else {
+        return Err(SinkFault);
+    };
+    let number = number + gap;
+    clock_once(machine, number, Some(words), leaving, action, hash, sink)
+}
+
+// So many idle cycles.
+fn clock_idle<M: Clocked, A: EachCycle<M>, H: HashUnits, S: Sink>(
+    machine: &mut M,
+    number: u64,
+    count: u64,
+    leaving: &mut Packet,
+    action: &mut A,
+    hash: &H,
+    sink: &mut S,
+) -> Result<(), SinkFault>
+    requires leaving { length leaving.old ≡ length (M.machine machine.old).config.fields }
+    requires fits { A.fits action.old (M.machine machine.old).config }
+    requires few { number + count < 2 ^ 64 }
+    ensures clocked { OnOk result (ClockedOver A.bytes A.after (H.meaning hash.now) (M.machine machine.old) (M.machine machine.new) action.old action.new (S.held sink.old) (S.held sink.new) number (replicate count None)) }
+    ensures stopped { OnErr result (StoppedIn A.bytes A.after (H.meaning hash.now) (M.machine machine.old) (M.machine machine.new) action.old (S.held sink.old) (S.held sink.new) number (replicate count None)) }
+    ensures cause { HasCause (S.faults sink.old) (S.faults sink.new) result }
+    ensures config { (M.machine machine.new).config ≡ (M.machine machine.old).config }
+    ensures fits { A.fits action.new (M.machine machine.old).config }
+    ensures size { length leaving.new ≡ length leaving.old }
 {
     for done in 0..count {
-        let Ok(()) = clock_once(machine, cycle + u64::from(done), None, lines, sink) else {
+        let now = number + done;
+        let Ok(()) = clock_once(machine, now, None, leaving, action, hash, sink) else {
             return Err(SinkFault);
         };
     }
     Ok(())
 }
 
-// One cycle, and the line of the packet that leaves in it.
-fn clock_once<S: Sink>(
-    machine: &mut Machine,
-    cycle: u64,
-    entering: Option<[u32; 2]>,
-    lines: &mut Lines,
+// One cycle, and what is done after it.
+fn clock_once<M: Clocked, A: EachCycle<M>, H: HashUnits, S: Sink>(
+    machine: &mut M,
+    number: u64,
+    entering: Option<&[u32]>,
+    leaving: &mut Packet,
+    action: &mut A,
+    hash: &H,
     sink: &mut S,
 ) -> Result<(), SinkFault>
-    requires { 2 ≤ lines.old.words }
-    ensures ran { OnOk result (Ran machine.old machine.new (S.held sink.old) (S.held sink.new) cycle (entering ∷ [])) }
-    ensures part { OnErr result (IsPart (S.held sink.old) (S.held sink.new) (lines_from machine.old cycle (entering ∷ []))) }
+    requires entering { HasWords (length (M.machine machine.old).config.fields) (option_map (λ fields. fields.now) entering) }
+    requires leaving { length leaving.old ≡ length (M.machine machine.old).config.fields }
+    requires fits { A.fits action.old (M.machine machine.old).config }
+    ensures clocked { OnOk result (ClockedOver A.bytes A.after (H.meaning hash.now) (M.machine machine.old) (M.machine machine.new) action.old action.new (S.held sink.old) (S.held sink.new) number (option_map (λ fields. fields.now) entering.entry ∷ [])) }
+    ensures stopped { OnErr result (StoppedIn A.bytes A.after (H.meaning hash.now) (M.machine machine.old) (M.machine machine.new) action.old (S.held sink.old) (S.held sink.new) number (option_map (λ fields. fields.now) entering.entry ∷ [])) }
     ensures cause { HasCause (S.faults sink.old) (S.faults sink.new) result }
-    ensures same { lines.new ≡ lines.old }
+    ensures config { (M.machine machine.new).config ≡ (M.machine machine.old).config }
+    ensures fits { A.fits action.new (M.machine machine.old).config }
+    ensures size { length leaving.new ≡ length leaving.old }
 {
-    match machine.cycle(entering) {
-        Some(words) => lines.packet(sink, cycle, &words),
-        None => Ok(()),
-    }
+    let left = if machine.run_cycle(hash, entering, leaving) {
+        Some(leaving.words())
+    } else {
+        None
+    };
+    action.put_cycle(machine, number, left, sink)
 }

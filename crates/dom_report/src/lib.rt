@@ -1,11 +1,22 @@
-//! What is put: the reports of runs, made line by line while the program runs or its pipeline is clocked.
+//! What is put: texts line by line, and the reports of runs, made while the program runs or its configuration is clocked.
 #![tactic(auto)]
 
+mod clocked;
 mod clocking;
-pub mod laws;
-mod machine;
-mod report;
+mod drawing;
+mod driving;
+mod each_cycle;
+mod entering;
+mod moment;
+mod run_report;
+mod selfrun;
 mod serial_report;
+mod text;
+mod watch_report;
 
-pub use report::{DEPTH, put_report};
+pub use driving::drive;
+pub use run_report::put_run_report;
+pub use selfrun::{Summary, run_drawn, summary_text};
 pub use serial_report::put_serial_report;
+pub use text::put_text;
+pub use watch_report::put_watch_report;

@@ -111,8 +111,8 @@ fn put_array<S: Sink>(
     Ok(())
 }
 
-// The line of a state word, unless it is 0.
-fn put_word<S: Sink>(
+/// Puts the line of a state word, unless it is 0.
+pub(crate) fn put_word<S: Sink>(
     array: usize,
     index: u32,
     word: u32,

@@ -1,3 +1,5 @@
+mod clocked;
+mod configurations;
 mod ends;
 mod lines;
 mod traces;
@@ -14,6 +16,10 @@ const PROGRAM: &str = "struct Packet { int x; int sum; };
 int total;
 void acc(struct Packet pkt) { total = total + pkt.x; pkt.sum = total; }
 ";
+
+// What `compile raw-small` makes of it.
+const CONFIG: &str =
+    "banzai,1\ntarget,raw-small\nfield,x\nfield,sum\narray,total,1,0\ncontainers,3\nstage,1\natom,1\nslot,0,#0,-,c2,add,c0\nstage,2\nstage,3\nstage,4\nout,c0\nout,c2\nend\n";
 
 const TRACE: &str = "gap,x\n0,5\n2,7\n";
 
@@ -32,11 +38,12 @@ fn bytes_of(alloc: Global, text: &str) -> Result<Seq<u8>, Memory> {
     Ok(bytes)
 }
 
-// The files `p` and `t`.
+// The files `p`, `t` and `c`, of which the last has the configuration.
 fn files_of(alloc: Global, program: &str, trace: &str) -> Result<FileList, Memory> {
     let mut files = Seq::new(alloc);
     files.push((Name::of(alloc, b"p")?, bytes_of(alloc, program)?))?;
     files.push((Name::of(alloc, b"t")?, bytes_of(alloc, trace)?))?;
+    files.push((Name::of(alloc, b"c")?, bytes_of(alloc, CONFIG)?))?;
     Ok(files)
 }
 
@@ -95,32 +102,36 @@ fn text_of(
     Ok(text)
 }
 
+// Traces of the program, and their reports.
+const REPORTS: [(&str, &str); 6] = [
+    (
+        TRACE,
+        "cycle,x,sum\n4,5,5\n7,7,12\nstate,total,0,12\nplace,total,1\ndone,2,8\n",
+    ),
+    ("gap,x\n", "cycle,x,sum\nplace,total,1\ndone,0,4\n"),
+    ("gap\n1\n", "cycle,x,sum\n5,0,0\nplace,total,1\ndone,1,6\n"),
+    (
+        "gap,sum,x\n0,9,4294967295",
+        "cycle,x,sum\n4,-1,-1\nstate,total,0,-1\nplace,total,1\ndone,1,5\n",
+    ),
+    (
+        "gap,x\n0,2147483647\r\n\n0,\"1\"\n",
+        "cycle,x,sum\n4,2147483647,2147483647\n5,1,-2147483648\nstate,total,0,-2147483648\nplace,total,1\ndone,2,6\n",
+    ),
+    (
+        "gap,x\n1999995,1\n",
+        "cycle,x,sum\n1999999,1,1\nstate,total,0,1\nplace,total,1\ndone,1,2000000\n",
+    ),
+];
+
 #[test]
 fn reports(rt: HostRuntime) -> Result<(), Fail> {
-    let rows = [
-        (
-            TRACE,
-            "cycle,x,sum\n4,5,5\n7,7,12\nstate,total,0,12\nplace,total,1\ndone,2,8\n",
-        ),
-        ("gap,x\n", "cycle,x,sum\nplace,total,1\ndone,0,4\n"),
-        ("gap\n1\n", "cycle,x,sum\n5,0,0\nplace,total,1\ndone,1,6\n"),
-        (
-            "gap,sum,x\n0,9,4294967295",
-            "cycle,x,sum\n4,-1,-1\nstate,total,0,-1\nplace,total,1\ndone,1,5\n",
-        ),
-        (
-            "gap,x\n0,2147483647\r\n\n0,\"1\"\n",
-            "cycle,x,sum\n4,2147483647,2147483647\n5,1,-2147483648\nstate,total,0,-2147483648\nplace,total,1\ndone,2,6\n",
-        ),
-        (
-            "gap,x\n1999995,1\n",
-            "cycle,x,sum\n1999999,1,1\nstate,total,0,1\nplace,total,1\ndone,1,2000000\n",
-        ),
-    ];
-    for (trace, report) in rows {
-        let given = run(rt.alloc(), PROGRAM, trace)?;
-        assert_eq!(rt; given.status, 0);
-        assert_eq!(rt; given.held.as_slice(), report.as_bytes());
+    for (trace, report) in REPORTS {
+        for command in ["run raw-small p t", "exec c t"] {
+            let given = answered(rt.alloc(), command, PROGRAM, trace)?;
+            assert_eq!(rt; given.status, 0);
+            assert_eq!(rt; given.held.as_slice(), report.as_bytes());
+        }
     }
     Ok(())
 }
@@ -144,21 +155,22 @@ void acc(struct Packet pkt) { hash5 = hash5 + pkt.hash1; pkt._b2 = hash5; }
     Ok(())
 }
 
+const REFUSED_TRACES: [(&str, &str); 10] = [
+    ("", "refused,trace,no-header\n"),
+    ("\n\n", "refused,trace,no-header\n"),
+    ("ga", "refused,trace,unknown-column,1\n"),
+    ("gap,y\n", "refused,trace,unknown-column,2\n"),
+    ("gap,x,sum,x\n", "refused,trace,column-twice,4\n"),
+    ("gap,x\n0\n", "refused,trace,row-length,1\n"),
+    ("gap,x\n0,1\n0,1,1\n", "refused,trace,row-length,2\n"),
+    ("gap,x\n0,\n", "refused,trace,value,1,2\n"),
+    ("gap,x\n\n0,1\n-1,5\n", "refused,trace,value,2,1\n"),
+    ("gap,x\n0,4294967296\n", "refused,trace,value,1,2\n"),
+];
+
 #[test]
 fn refused_traces(rt: HostRuntime) -> Result<(), Fail> {
-    let rows = [
-        ("", "refused,trace,no-header\n"),
-        ("\n\n", "refused,trace,no-header\n"),
-        ("ga", "refused,trace,unknown-column,1\n"),
-        ("gap,y\n", "refused,trace,unknown-column,2\n"),
-        ("gap,x,sum,x\n", "refused,trace,column-twice,4\n"),
-        ("gap,x\n0\n", "refused,trace,row-length,1\n"),
-        ("gap,x\n0,1\n0,1,1\n", "refused,trace,row-length,2\n"),
-        ("gap,x\n0,\n", "refused,trace,value,1,2\n"),
-        ("gap,x\n\n0,1\n-1,5\n", "refused,trace,value,2,1\n"),
-        ("gap,x\n0,4294967296\n", "refused,trace,value,1,2\n"),
-    ];
-    for (trace, line) in rows {
+    for (trace, line) in REFUSED_TRACES {
         let clocked = run(rt.alloc(), PROGRAM, trace)?;
         assert_eq!(rt; clocked.status, 3);
         assert_eq!(rt; clocked.held.as_slice(), line.as_bytes());
@@ -179,19 +191,27 @@ fn refused_traces(rt: HostRuntime) -> Result<(), Fail> {
     Ok(())
 }
 
+const REFUSED_WORDS: [&str; 15] = [
+    "",
+    "run",
+    "run raw-tiny p t",
+    "run raw-small p",
+    "serial p",
+    "serial p t u",
+    "serial raw-small p t",
+    "run raw-small p t u",
+    "compile raw-small",
+    "compile raw-tiny p",
+    "compile raw-small p t",
+    "compile p raw-small",
+    "exec c",
+    "exec c t u",
+    "exec raw-small c t",
+];
+
 #[test]
 fn refused_words(rt: HostRuntime) -> Result<(), Fail> {
-    let lines = [
-        "",
-        "run",
-        "run raw-tiny p t",
-        "run raw-small p",
-        "serial p",
-        "serial p t u",
-        "serial raw-small p t",
-        "run raw-small p t u",
-    ];
-    for line in lines {
+    for line in REFUSED_WORDS {
         let files = files_of(rt.alloc(), PROGRAM, TRACE)?;
         let none = Vec::new(rt.alloc());
         let given = answer(rt.alloc(), line, files, none, Vec::new(rt.alloc()))?;
@@ -201,13 +221,16 @@ fn refused_words(rt: HostRuntime) -> Result<(), Fail> {
     Ok(())
 }
 
+const CUT_REPORTS: [(&str, &str); 4] = [
+    ("run raw-small p t", "cycle,x,sum\n4,5,5\n7,"),
+    ("exec c t", "cycle,x,sum\n4,5,5\n7,"),
+    ("serial p t", "packet,x,sum\n1,5,5\n2,"),
+    ("compile raw-small p", "banzai,1\ntarget,raw-small\nfi"),
+];
+
 #[test]
 fn third_put_fails(rt: HostRuntime) -> Result<(), Fail> {
-    let rows = [
-        ("run raw-small p t", "cycle,x,sum\n4,5,5\n7,"),
-        ("serial p t", "packet,x,sum\n1,5,5\n2,"),
-    ];
-    for (command, held) in rows {
+    for (command, held) in CUT_REPORTS {
         let files = files_of(rt.alloc(), PROGRAM, TRACE)?;
         let failing = vec![in rt.alloc(); (3, 2)]?;
         let given = answer(rt.alloc(), command, files, Vec::new(rt.alloc()), failing)?;
@@ -217,19 +240,25 @@ fn third_put_fails(rt: HostRuntime) -> Result<(), Fail> {
     Ok(())
 }
 
+const READS: [(&str, &str, &str, u64, u8); 12] = [
+    ("run raw-small p t", PROGRAM, TRACE, 2, 0),
+    ("serial p t", PROGRAM, TRACE, 2, 0),
+    ("run raw-small p t", PROGRAM, "no trace", 2, 3),
+    ("serial p t", PROGRAM, "no trace", 2, 3),
+    ("run raw-small p t", "no program", TRACE, 1, 1),
+    ("serial p t", "no program", TRACE, 1, 1),
+    ("serial p", PROGRAM, TRACE, 0, 2),
+    ("compile raw-small p", PROGRAM, TRACE, 1, 0),
+    ("compile raw-small p", "no program", TRACE, 1, 1),
+    ("exec c t", PROGRAM, TRACE, 2, 0),
+    ("exec c t", PROGRAM, "no trace", 2, 3),
+    ("exec p t", PROGRAM, TRACE, 1, 3),
+];
+
 // Each file is read once, in order: where no further read can succeed, the status is the same.
 #[test]
 fn reads(rt: HostRuntime) -> Result<(), Fail> {
-    let rows = [
-        ("run raw-small p t", PROGRAM, TRACE, 2, 0),
-        ("serial p t", PROGRAM, TRACE, 2, 0),
-        ("run raw-small p t", PROGRAM, "no trace", 2, 3),
-        ("serial p t", PROGRAM, "no trace", 2, 3),
-        ("run raw-small p t", "no program", TRACE, 1, 1),
-        ("serial p t", "no program", TRACE, 1, 1),
-        ("serial p", PROGRAM, TRACE, 0, 2),
-    ];
-    for (command, program, trace, reads, status) in rows {
+    for (command, program, trace, reads, status) in READS {
         let files = files_of(rt.alloc(), program, trace)?;
         let mut failing = Vec::new(rt.alloc());
         for more in 1..9 {
@@ -244,32 +273,45 @@ fn reads(rt: HostRuntime) -> Result<(), Fail> {
 // Nothing is read after a read that failed: where all others succeed, the status is 4.
 #[test]
 fn failed_reads(rt: HostRuntime) -> Result<(), Fail> {
-    for command in ["run raw-small p t", "serial p t"] {
-        for number in [1, 2] {
-            let files = files_of(rt.alloc(), PROGRAM, TRACE)?;
-            let failing = vec![in rt.alloc(); number]?;
-            let given = answer(rt.alloc(), command, files, failing, Vec::new(rt.alloc()))?;
-            assert_eq!(rt; given.status, 4);
-            assert_eq!(rt; given.held.as_slice(), b"".as_slice());
-        }
+    let rows = [
+        ("run raw-small p t", 1),
+        ("run raw-small p t", 2),
+        ("serial p t", 1),
+        ("serial p t", 2),
+        ("compile raw-small p", 1),
+        ("exec c t", 1),
+        ("exec c t", 2),
+    ];
+    for (command, number) in rows {
+        let files = files_of(rt.alloc(), PROGRAM, TRACE)?;
+        let failing = vec![in rt.alloc(); number]?;
+        let given = answer(rt.alloc(), command, files, failing, Vec::new(rt.alloc()))?;
+        assert_eq!(rt; given.status, 4);
+        assert_eq!(rt; given.held.as_slice(), b"".as_slice());
     }
     Ok(())
 }
 
+const WHOLE_REPORTS: [(&str, &str); 4] = [
+    (
+        "run raw-small p t",
+        "cycle,x,sum\n4,5,5\n7,7,12\nstate,total,0,12\nplace,total,1\ndone,2,8\n",
+    ),
+    (
+        "exec c t",
+        "cycle,x,sum\n4,5,5\n7,7,12\nstate,total,0,12\nplace,total,1\ndone,2,8\n",
+    ),
+    (
+        "serial p t",
+        "packet,x,sum\n1,5,5\n2,7,12\nstate,total,0,12\ndone,2\n",
+    ),
+    ("compile raw-small p", CONFIG),
+];
+
 // One line is one put: where put k takes nothing and fails, the lines before it have been put.
 #[test]
 fn puts(rt: HostRuntime) -> Result<(), Fail> {
-    let rows = [
-        (
-            "run raw-small p t",
-            "cycle,x,sum\n4,5,5\n7,7,12\nstate,total,0,12\nplace,total,1\ndone,2,8\n",
-        ),
-        (
-            "serial p t",
-            "packet,x,sum\n1,5,5\n2,7,12\nstate,total,0,12\ndone,2\n",
-        ),
-    ];
-    for (command, report) in rows {
+    for (command, report) in WHOLE_REPORTS {
         let mut before = String::new(rt.alloc());
         let mut number = 0u64;
         for line in report.lines() {
@@ -304,58 +346,59 @@ const FIELDS: &str =
 const GLOBALS: &str =
     "struct P { int x; }; int g0; int g1; int g2; int g3; int g4; int g5; int g6; int g7; int g8; int g9; int g10; int g11; int g12; int g13; int g14; int g15; int g16; int g17; int g18; int g19; int g20; int g21; int g22; int g23; int g24; int g25; int g26; int g27; int g28; int g29; int g30; int g31; ";
 
-#[test]
-fn serial_reports(rt: HostRuntime) -> Result<(), Fail> {
-    let rows = [
-        (
-            PROGRAM,
-            TRACE,
-            "packet,x,sum\n1,5,5\n2,7,12\nstate,total,0,12\ndone,2\n",
-        ),
-        (PROGRAM, "gap,x\n", "packet,x,sum\ndone,0\n"),
-        (PROGRAM, "gap\n1999999\n", "packet,x,sum\n1,0,0\ndone,1\n"),
-        (
-            "struct P { int k; int x; };
+const SERIAL_REPORTS: [(&str, &str, &str); 10] = [
+    (
+        PROGRAM,
+        TRACE,
+        "packet,x,sum\n1,5,5\n2,7,12\nstate,total,0,12\ndone,2\n",
+    ),
+    (PROGRAM, "gap,x\n", "packet,x,sum\ndone,0\n"),
+    (PROGRAM, "gap\n1999999\n", "packet,x,sum\n1,0,0\ndone,1\n"),
+    (
+        "struct P { int k; int x; };
 int a;
 int b;
 void one(struct P p) if (p.k == 0) { a = a + p.x; p.k = 1; }
 void two(struct P p) if (p.k == 0) { b = b + 1; }
 ",
-            "gap,k,x\n0,0,5\n0,2,7\n",
-            "packet,k,x\n1,1,5\n2,2,7\nstate,a,0,5\nstate,b,0,1\ndone,2\n",
-        ),
-        (
-            "struct P { int x; }; int s; void f(struct P pkt) { pkt.x = 2 + 3 * 4 << 1 | 1 == 1; }",
-            "gap\n0\n",
-            "packet,x\n1,29\ndone,1\n",
-        ),
-        (
-            "struct P { int x; }; int s; void f(struct P pkt) { pkt.x = 10 - 4 - 3; }",
-            "gap\n0\n",
-            "packet,x\n1,3\ndone,1\n",
-        ),
-        (
-            "struct P { int x; }; int s; void f(struct P pkt) { pkt.x = hash1(pkt.x); }",
-            "gap\n0\n",
-            "packet,x\n1,303091727\ndone,1\n",
-        ),
-        (
-            "struct P { int i; int x; }; int a[3] = -2; int b[1]; void f(struct P p) { a[p.i] = 0; } void g(struct P p) { p.x = p.x * 2; b[0] = p.x; }",
-            "gap,i,x\n0,-2,-2\n",
-            "packet,i,x\n1,-2,-4\nstate,a,0,-2\nstate,a,1,-2\nstate,b,0,-4\ndone,1\n",
-        ),
-        (
-            "#define K 1 struct P { int x; }; int a[8]; void f(struct P p) { a[K] = a[1] + 1; a[1] = a[0x1]; }",
-            "gap\n0\n",
-            "packet,x\n1,0\nstate,a,1,1\ndone,1\n",
-        ),
-        (
-            "struct P { int x; }; int a[8]; void f(struct P p) { a[-1] = p.x; }",
-            "gap,x\n0,3\n",
-            "packet,x\n1,3\nstate,a,7,3\ndone,1\n",
-        ),
-    ];
-    for (program, trace, report) in rows {
+        "gap,k,x\n0,0,5\n0,2,7\n",
+        "packet,k,x\n1,1,5\n2,2,7\nstate,a,0,5\nstate,b,0,1\ndone,2\n",
+    ),
+    (
+        "struct P { int x; }; int s; void f(struct P pkt) { pkt.x = 2 + 3 * 4 << 1 | 1 == 1; }",
+        "gap\n0\n",
+        "packet,x\n1,29\ndone,1\n",
+    ),
+    (
+        "struct P { int x; }; int s; void f(struct P pkt) { pkt.x = 10 - 4 - 3; }",
+        "gap\n0\n",
+        "packet,x\n1,3\ndone,1\n",
+    ),
+    (
+        "struct P { int x; }; int s; void f(struct P pkt) { pkt.x = hash1(pkt.x); }",
+        "gap\n0\n",
+        "packet,x\n1,303091727\ndone,1\n",
+    ),
+    (
+        "struct P { int i; int x; }; int a[3] = -2; int b[1]; void f(struct P p) { a[p.i] = 0; } void g(struct P p) { p.x = p.x * 2; b[0] = p.x; }",
+        "gap,i,x\n0,-2,-2\n",
+        "packet,i,x\n1,-2,-4\nstate,a,0,-2\nstate,a,1,-2\nstate,b,0,-4\ndone,1\n",
+    ),
+    (
+        "#define K 1 struct P { int x; }; int a[8]; void f(struct P p) { a[K] = a[1] + 1; a[1] = a[0x1]; }",
+        "gap\n0\n",
+        "packet,x\n1,0\nstate,a,1,1\ndone,1\n",
+    ),
+    (
+        "struct P { int x; }; int a[8]; void f(struct P p) { a[-1] = p.x; }",
+        "gap,x\n0,3\n",
+        "packet,x\n1,3\nstate,a,7,3\ndone,1\n",
+    ),
+];
+
+#[test]
+fn serial_reports(rt: HostRuntime) -> Result<(), Fail> {
+    for (program, trace, report) in SERIAL_REPORTS {
         let given = serial(rt.alloc(), program, trace)?;
         assert_eq!(rt; given.status, 0);
         assert_eq!(rt; given.held.as_slice(), report.as_bytes());
@@ -363,233 +406,240 @@ void two(struct P p) if (p.k == 0) { b = b + 1; }
     Ok(())
 }
 
+const REFUSED_DECLARATIONS: [(&str, &str, &str); 34] = [
+    ("", "@", "refused,lex,bad-byte,0\n"),
+    (
+        "",
+        "struct P { int x; }; /*",
+        "refused,lex,open-comment,21\n",
+    ),
+    (BODY, "s = 4294967296; }", "refused,lex,big-literal,82\n"),
+    ("", "", "refused,parse,unexpected,0\n"),
+    (BODY, "while (p.x) { } }", "refused,parse,forbidden,78\n"),
+    (BODY, "s = 1 }", "refused,parse,unexpected,84\n"),
+    (BODY, "s = q; @", "refused,lex,bad-byte,85\n"),
+    (BODY, "s = q; s", "refused,parse,unexpected,86\n"),
+    (
+        "",
+        "struct P { int x; }; int s; int s; void f(struct P p) { }",
+        "refused,check,twice,32\n",
+    ),
+    (
+        "",
+        "#define s 1 #define s 1 struct P { int x; };  void f(struct P p) { }",
+        "refused,check,twice,20\n",
+    ),
+    (
+        "",
+        "#define hash4h 1 struct P { int x; };  void f(struct P p) { }",
+        "refused,check,shape-of-name,8\n",
+    ),
+    (
+        "",
+        "struct P { int x; }; int hash1; void f(struct P p) { }",
+        "refused,check,shape-of-name,25\n",
+    ),
+    (
+        GLOBALS,
+        "int hash1; void f(struct P p) { }",
+        "refused,check,shape-of-name,303\n",
+    ),
+    (
+        GLOBALS,
+        "int g0; void f(struct P p) { }",
+        "refused,check,twice,303\n",
+    ),
+    (
+        GLOBALS,
+        "int g[q]; void f(struct P p) { }",
+        "refused,check,too-large-arrays,303\n",
+    ),
+    (
+        "",
+        "struct P { int x; int x; }; void f(struct P p) { }",
+        "refused,check,twice,22\n",
+    ),
+    (
+        FIELDS,
+        "int f0; }; void f(struct P p) { }",
+        "refused,check,twice,581\n",
+    ),
+    (
+        FIELDS,
+        "int f; }; void f(struct P p) { }",
+        "refused,check,too-large-fields,581\n",
+    ),
+    (
+        "",
+        "struct P { int x; }; int s[0] = q; void f(struct P p) { }",
+        "refused,check,too-large-length,25\n",
+    ),
+    (
+        "",
+        "struct P { int x; }; int s[1048577]; void f(struct P p) { }",
+        "refused,check,too-large-length,25\n",
+    ),
+    (
+        "",
+        "#define N -1 struct P { int x; }; int s[N]; void f(struct P p) { }",
+        "refused,check,too-large-length,38\n",
+    ),
+    (
+        "",
+        "struct P { int x; }; int s[1048576]; int t = q; void f(struct P p) { }",
+        "refused,check,too-large-words,41\n",
+    ),
+    (
+        "",
+        "struct P { int x; }; int s[q] = r; void f(struct P p) { }",
+        "refused,check,unknown-name,27\n",
+    ),
+    (
+        "",
+        "struct P { int x; }; int s[hash1]; void f(struct P p) { }",
+        "refused,check,unknown-name,27\n",
+    ),
+    (
+        "",
+        "struct P { int x; }; int s[s]; void f(struct P p) { }",
+        "refused,check,shape-of-name,27\n",
+    ),
+    (
+        "",
+        "struct P { int x; }; int s; int t[s] = q; void f(struct P p) { }",
+        "refused,check,shape-of-name,34\n",
+    ),
+    (
+        "",
+        "struct P { int x; }; int s = q; void f(struct P p) { }",
+        "refused,check,unknown-name,29\n",
+    ),
+    (
+        "",
+        "struct P { int x; }; int s = hash1; void f(struct P p) { }",
+        "refused,check,unknown-name,29\n",
+    ),
+    (
+        "",
+        "struct P { int x; }; int s = {s}; void f(struct P p) { }",
+        "refused,check,shape-of-name,30\n",
+    ),
+    (
+        "",
+        "struct P { int x; }; int p; void f(struct Q p) { }",
+        "refused,check,unknown-name,42\n",
+    ),
+    (
+        "",
+        "struct P { int x; }; int p; void f(struct P p) { }",
+        "refused,check,twice,44\n",
+    ),
+    (
+        "",
+        "struct P { int x; }; void f(struct P hash1) { }",
+        "refused,check,shape-of-name,37\n",
+    ),
+    (
+        "",
+        "struct P { int x; }; void f(struct P p) { } void g(struct P p) { p.y = 1; }",
+        "refused,check,unknown-name,67\n",
+    ),
+    (
+        "",
+        "struct P { int x; }; void f(struct P p) { } void g(struct P q) { q.x = p.x; }",
+        "refused,check,unknown-name,71\n",
+    ),
+];
+
+const REFUSED_NAMES: [(&str, &str, &str); 15] = [
+    (BODY, "s = q.x; }", "refused,check,unknown-name,82\n"),
+    (BODY, "s = hash1.x; }", "refused,check,unknown-name,82\n"),
+    (BODY, "s = s.z; }", "refused,check,shape-of-name,82\n"),
+    (BODY, "s = p.z; }", "refused,check,unknown-name,84\n"),
+    (BODY, "s = hash1; }", "refused,check,shape-of-name,82\n"),
+    (BODY, "s = a; }", "refused,check,shape-of-name,82\n"),
+    (BODY, "s = p; }", "refused,check,shape-of-name,82\n"),
+    (BODY, "s = q; }", "refused,check,unknown-name,82\n"),
+    (BODY, "r = q; }", "refused,check,unknown-name,82\n"),
+    (BODY, "q = 1; }", "refused,check,unknown-name,78\n"),
+    (BODY, "K = 1; }", "refused,check,shape-of-name,78\n"),
+    (BODY, "a = 1; }", "refused,check,shape-of-name,78\n"),
+    (BODY, "p = 1; }", "refused,check,shape-of-name,78\n"),
+    (BODY, "hash1 = 1; }", "refused,check,shape-of-name,78\n"),
+    (BODY, "q.x = 1; }", "refused,check,unknown-name,78\n"),
+];
+
+const REFUSED_INDEXES: [(&str, &str, &str); 33] = [
+    (BODY, "s = q[r]; }", "refused,check,unknown-name,82\n"),
+    (BODY, "s = s[q]; }", "refused,check,shape-of-name,82\n"),
+    (BODY, "s = K[0]; }", "refused,check,shape-of-name,82\n"),
+    (BODY, "s = hash1[0]; }", "refused,check,shape-of-name,82\n"),
+    (BODY, "hash1[0] = 1; }", "refused,check,shape-of-name,78\n"),
+    (BODY, "s = a[q]; }", "refused,check,unknown-name,84\n"),
+    (BODY, "s = a[hash1]; }", "refused,check,unknown-name,84\n"),
+    (BODY, "s = a[s]; }", "refused,check,bad-index,84\n"),
+    (BODY, "s = a[p]; }", "refused,check,bad-index,84\n"),
+    (BODY, "s = a[q.x]; }", "refused,check,unknown-name,84\n"),
+    (BODY, "s = a[s.x]; }", "refused,check,shape-of-name,84\n"),
+    (BODY, "s = a[p.z]; }", "refused,check,unknown-name,86\n"),
+    (
+        BODY,
+        "s = a[((p.x) + 1)]; }",
+        "refused,check,bad-index,86\n",
+    ),
+    (BODY, "s = a[-(1)]; }", "refused,check,bad-index,84\n"),
+    (BODY, "s = a[hash1(1)]; }", "refused,check,bad-index,84\n"),
+    (
+        BODY,
+        "s = a[0]; s = a[1 + 1]; }",
+        "refused,check,bad-index,94\n",
+    ),
+    (BODY, "s = a[0] + a[8]; }", "refused,check,two-indexes,89\n"),
+    (
+        BODY,
+        "a[p.x] = 1; if (a[p.x]) { } else { a[p.y] = 2; } }",
+        "refused,check,two-indexes,113\n",
+    ),
+    (
+        BODY,
+        "a[K] = a[1]; } void g(struct P q) { a[q.x] = 2; }",
+        "refused,check,two-indexes,114\n",
+    ),
+    (BODY, "s = q(r); }", "refused,check,unknown-name,82\n"),
+    (BODY, "s = s(q); }", "refused,check,shape-of-name,82\n"),
+    (BODY, "s = p(); }", "refused,check,shape-of-name,82\n"),
+    (BODY, "s = hash2(q); }", "refused,check,hash-args,82\n"),
+    (BODY, "s = hash1(); }", "refused,check,hash-args,82\n"),
+    (BODY, "s = hash1(q); }", "refused,check,unknown-name,88\n"),
+    (
+        BODY,
+        "p.x = a[p.x]; }",
+        "refused,check,index-assigned-later,78\n",
+    ),
+    (
+        BODY,
+        "a[p.x] = 1; p.z = 1; }",
+        "refused,check,unknown-name,92\n",
+    ),
+    (
+        BODY,
+        "a[p.x] = 1; } void g(struct P q) { q.y = 1; q.x = 1; }",
+        "refused,check,index-assigned-later,122\n",
+    ),
+    (GUARD, "s) { }", "refused,check,shape-of-name,80\n"),
+    (GUARD, "a[q]) { }", "refused,check,shape-of-name,80\n"),
+    (GUARD, "q[s]) { }", "refused,check,unknown-name,80\n"),
+    (
+        GUARD,
+        "p.x + q) { r = 1; }",
+        "refused,check,unknown-name,86\n",
+    ),
+    (GUARD, "hash1(a)) { }", "refused,check,shape-of-name,86\n"),
+];
+
 #[test]
-fn refused_programs(rt: HostRuntime) -> Result<(), Fail> {
-    let rows = [
-        ("", "@", "refused,lex,bad-byte,0\n"),
-        (
-            "",
-            "struct P { int x; }; /*",
-            "refused,lex,open-comment,21\n",
-        ),
-        (BODY, "s = 4294967296; }", "refused,lex,big-literal,82\n"),
-        ("", "", "refused,parse,unexpected,0\n"),
-        (BODY, "while (p.x) { } }", "refused,parse,forbidden,78\n"),
-        (BODY, "s = 1 }", "refused,parse,unexpected,84\n"),
-        (BODY, "s = q; @", "refused,lex,bad-byte,85\n"),
-        (BODY, "s = q; s", "refused,parse,unexpected,86\n"),
-        (
-            "",
-            "struct P { int x; }; int s; int s; void f(struct P p) { }",
-            "refused,check,twice,32\n",
-        ),
-        (
-            "",
-            "#define s 1 #define s 1 struct P { int x; };  void f(struct P p) { }",
-            "refused,check,twice,20\n",
-        ),
-        (
-            "",
-            "#define hash4h 1 struct P { int x; };  void f(struct P p) { }",
-            "refused,check,shape-of-name,8\n",
-        ),
-        (
-            "",
-            "struct P { int x; }; int hash1; void f(struct P p) { }",
-            "refused,check,shape-of-name,25\n",
-        ),
-        (
-            GLOBALS,
-            "int hash1; void f(struct P p) { }",
-            "refused,check,shape-of-name,303\n",
-        ),
-        (
-            GLOBALS,
-            "int g0; void f(struct P p) { }",
-            "refused,check,twice,303\n",
-        ),
-        (
-            GLOBALS,
-            "int g[q]; void f(struct P p) { }",
-            "refused,check,too-large-arrays,303\n",
-        ),
-        (
-            "",
-            "struct P { int x; int x; }; void f(struct P p) { }",
-            "refused,check,twice,22\n",
-        ),
-        (
-            FIELDS,
-            "int f0; }; void f(struct P p) { }",
-            "refused,check,twice,581\n",
-        ),
-        (
-            FIELDS,
-            "int f; }; void f(struct P p) { }",
-            "refused,check,too-large-fields,581\n",
-        ),
-        (
-            "",
-            "struct P { int x; }; int s[0] = q; void f(struct P p) { }",
-            "refused,check,too-large-length,25\n",
-        ),
-        (
-            "",
-            "struct P { int x; }; int s[1048577]; void f(struct P p) { }",
-            "refused,check,too-large-length,25\n",
-        ),
-        (
-            "",
-            "#define N -1 struct P { int x; }; int s[N]; void f(struct P p) { }",
-            "refused,check,too-large-length,38\n",
-        ),
-        (
-            "",
-            "struct P { int x; }; int s[1048576]; int t = q; void f(struct P p) { }",
-            "refused,check,too-large-words,41\n",
-        ),
-        (
-            "",
-            "struct P { int x; }; int s[q] = r; void f(struct P p) { }",
-            "refused,check,unknown-name,27\n",
-        ),
-        (
-            "",
-            "struct P { int x; }; int s[hash1]; void f(struct P p) { }",
-            "refused,check,unknown-name,27\n",
-        ),
-        (
-            "",
-            "struct P { int x; }; int s[s]; void f(struct P p) { }",
-            "refused,check,shape-of-name,27\n",
-        ),
-        (
-            "",
-            "struct P { int x; }; int s; int t[s] = q; void f(struct P p) { }",
-            "refused,check,shape-of-name,34\n",
-        ),
-        (
-            "",
-            "struct P { int x; }; int s = q; void f(struct P p) { }",
-            "refused,check,unknown-name,29\n",
-        ),
-        (
-            "",
-            "struct P { int x; }; int s = hash1; void f(struct P p) { }",
-            "refused,check,unknown-name,29\n",
-        ),
-        (
-            "",
-            "struct P { int x; }; int s = {s}; void f(struct P p) { }",
-            "refused,check,shape-of-name,30\n",
-        ),
-        (
-            "",
-            "struct P { int x; }; int p; void f(struct Q p) { }",
-            "refused,check,unknown-name,42\n",
-        ),
-        (
-            "",
-            "struct P { int x; }; int p; void f(struct P p) { }",
-            "refused,check,twice,44\n",
-        ),
-        (
-            "",
-            "struct P { int x; }; void f(struct P hash1) { }",
-            "refused,check,shape-of-name,37\n",
-        ),
-        (
-            "",
-            "struct P { int x; }; void f(struct P p) { } void g(struct P p) { p.y = 1; }",
-            "refused,check,unknown-name,67\n",
-        ),
-        (
-            "",
-            "struct P { int x; }; void f(struct P p) { } void g(struct P q) { q.x = p.x; }",
-            "refused,check,unknown-name,71\n",
-        ),
-        (BODY, "s = q.x; }", "refused,check,unknown-name,82\n"),
-        (BODY, "s = hash1.x; }", "refused,check,unknown-name,82\n"),
-        (BODY, "s = s.z; }", "refused,check,shape-of-name,82\n"),
-        (BODY, "s = p.z; }", "refused,check,unknown-name,84\n"),
-        (BODY, "s = hash1; }", "refused,check,shape-of-name,82\n"),
-        (BODY, "s = a; }", "refused,check,shape-of-name,82\n"),
-        (BODY, "s = p; }", "refused,check,shape-of-name,82\n"),
-        (BODY, "s = q; }", "refused,check,unknown-name,82\n"),
-        (BODY, "r = q; }", "refused,check,unknown-name,82\n"),
-        (BODY, "q = 1; }", "refused,check,unknown-name,78\n"),
-        (BODY, "K = 1; }", "refused,check,shape-of-name,78\n"),
-        (BODY, "a = 1; }", "refused,check,shape-of-name,78\n"),
-        (BODY, "p = 1; }", "refused,check,shape-of-name,78\n"),
-        (BODY, "hash1 = 1; }", "refused,check,shape-of-name,78\n"),
-        (BODY, "q.x = 1; }", "refused,check,unknown-name,78\n"),
-        (BODY, "s = q[r]; }", "refused,check,unknown-name,82\n"),
-        (BODY, "s = s[q]; }", "refused,check,shape-of-name,82\n"),
-        (BODY, "s = K[0]; }", "refused,check,shape-of-name,82\n"),
-        (BODY, "s = hash1[0]; }", "refused,check,shape-of-name,82\n"),
-        (BODY, "hash1[0] = 1; }", "refused,check,shape-of-name,78\n"),
-        (BODY, "s = a[q]; }", "refused,check,unknown-name,84\n"),
-        (BODY, "s = a[hash1]; }", "refused,check,unknown-name,84\n"),
-        (BODY, "s = a[s]; }", "refused,check,bad-index,84\n"),
-        (BODY, "s = a[p]; }", "refused,check,bad-index,84\n"),
-        (BODY, "s = a[q.x]; }", "refused,check,unknown-name,84\n"),
-        (BODY, "s = a[s.x]; }", "refused,check,shape-of-name,84\n"),
-        (BODY, "s = a[p.z]; }", "refused,check,unknown-name,86\n"),
-        (
-            BODY,
-            "s = a[((p.x) + 1)]; }",
-            "refused,check,bad-index,86\n",
-        ),
-        (BODY, "s = a[-(1)]; }", "refused,check,bad-index,84\n"),
-        (BODY, "s = a[hash1(1)]; }", "refused,check,bad-index,84\n"),
-        (
-            BODY,
-            "s = a[0]; s = a[1 + 1]; }",
-            "refused,check,bad-index,94\n",
-        ),
-        (BODY, "s = a[0] + a[8]; }", "refused,check,two-indexes,89\n"),
-        (
-            BODY,
-            "a[p.x] = 1; if (a[p.x]) { } else { a[p.y] = 2; } }",
-            "refused,check,two-indexes,113\n",
-        ),
-        (
-            BODY,
-            "a[K] = a[1]; } void g(struct P q) { a[q.x] = 2; }",
-            "refused,check,two-indexes,114\n",
-        ),
-        (BODY, "s = q(r); }", "refused,check,unknown-name,82\n"),
-        (BODY, "s = s(q); }", "refused,check,shape-of-name,82\n"),
-        (BODY, "s = p(); }", "refused,check,shape-of-name,82\n"),
-        (BODY, "s = hash2(q); }", "refused,check,hash-args,82\n"),
-        (BODY, "s = hash1(); }", "refused,check,hash-args,82\n"),
-        (BODY, "s = hash1(q); }", "refused,check,unknown-name,88\n"),
-        (
-            BODY,
-            "p.x = a[p.x]; }",
-            "refused,check,index-assigned-later,78\n",
-        ),
-        (
-            BODY,
-            "a[p.x] = 1; p.z = 1; }",
-            "refused,check,unknown-name,92\n",
-        ),
-        (
-            BODY,
-            "a[p.x] = 1; } void g(struct P q) { q.y = 1; q.x = 1; }",
-            "refused,check,index-assigned-later,122\n",
-        ),
-        (GUARD, "s) { }", "refused,check,shape-of-name,80\n"),
-        (GUARD, "a[q]) { }", "refused,check,shape-of-name,80\n"),
-        (GUARD, "q[s]) { }", "refused,check,unknown-name,80\n"),
-        (
-            GUARD,
-            "p.x + q) { r = 1; }",
-            "refused,check,unknown-name,86\n",
-        ),
-        (GUARD, "hash1(a)) { }", "refused,check,shape-of-name,86\n"),
-    ];
-    for (head, rest, line) in rows {
+fn refused_declarations(rt: HostRuntime) -> Result<(), Fail> {
+    for (head, rest, line) in REFUSED_DECLARATIONS {
         let program = text_of(rt.alloc(), head, "", rest, 0)?;
         let given = serial(rt.alloc(), program.as_str(), "no trace")?;
         assert_eq!(rt; given.status, 1, "for {rest}");
@@ -599,15 +649,40 @@ fn refused_programs(rt: HostRuntime) -> Result<(), Fail> {
 }
 
 #[test]
+fn refused_names(rt: HostRuntime) -> Result<(), Fail> {
+    for (head, rest, line) in REFUSED_NAMES {
+        let program = text_of(rt.alloc(), head, "", rest, 0)?;
+        let given = serial(rt.alloc(), program.as_str(), "no trace")?;
+        assert_eq!(rt; given.status, 1, "for {rest}");
+        assert_eq!(rt; given.held.as_slice(), line.as_bytes(), "for {rest}");
+    }
+    Ok(())
+}
+
+#[test]
+fn refused_indexes(rt: HostRuntime) -> Result<(), Fail> {
+    for (head, rest, line) in REFUSED_INDEXES {
+        let program = text_of(rt.alloc(), head, "", rest, 0)?;
+        let given = serial(rt.alloc(), program.as_str(), "no trace")?;
+        assert_eq!(rt; given.status, 1, "for {rest}");
+        assert_eq!(rt; given.held.as_slice(), line.as_bytes(), "for {rest}");
+    }
+    Ok(())
+}
+
+// What stands before a value.
+const VALUE: &str = "struct P { int x; }; int s; void f(struct P pkt) { s = ";
+
+const LONG_PROGRAMS: [(&str, &str, &str, usize, &str); 4] = [
+    ("", " ", "", 65536, "refused,parse,unexpected,65536\n"),
+    ("", " ", "", 65537, "refused,limit,program\n"),
+    ("", ";", "", 16385, "refused,lex,too-many-tokens,16384\n"),
+    (VALUE, "(", "1", 64, "refused,parse,too-nested,118\n"),
+];
+
+#[test]
 fn long_programs(rt: HostRuntime) -> Result<(), Fail> {
-    let value = "struct P { int x; }; int s; void f(struct P pkt) { s = ";
-    let rows = [
-        ("", " ", "", 65536, "refused,parse,unexpected,65536\n"),
-        ("", " ", "", 65537, "refused,limit,program\n"),
-        ("", ";", "", 16385, "refused,lex,too-many-tokens,16384\n"),
-        (value, "(", "1", 64, "refused,parse,too-nested,118\n"),
-    ];
-    for (first, repeated, last, count, line) in rows {
+    for (first, repeated, last, count, line) in LONG_PROGRAMS {
         let program = text_of(rt.alloc(), first, repeated, last, count)?;
         let given = serial(rt.alloc(), program.as_str(), "no trace")?;
         assert_eq!(rt; given.status, 1);

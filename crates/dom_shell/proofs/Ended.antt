@@ -1,39 +1,56 @@
 -- What a call answers, from how it ended.
-use Rattle.std.proofs.Common.{◌≡◌, ℕ, ◌<◌, ◌≤◌, ◌⊎◌, inl, inr, List, [], refl, sym, ap, ◌∙◌, subst, Option, Some, None, Result, Ok, Err, MatchResult, arith}
+use Rattle.std.proofs.Common.{◌≡◌, ℕ, ◌<◌, ◌≤◌, ◌⊎◌, inl, inr, List, [], ◌∷◌, length, refl, sym, ap, ◌∙◌, subst, Option, None, IfSome, Result, Ok, Err, MatchResult, arith}
 use Rattle.dom_io.specs.Causes.{HasCause, Rose}
 use Rattle.dom_io.specs.Held.{IsPart, Puts, appended}
 use Rattle.dom_io.specs.declared.sink.SinkFault.{SinkFault}
 use Rattle.dom_words.specs.State.{Hash}
 use Rattle.dom_finding.specs.Command.{Command, command_of}
-use Rattle.dom_finding.specs.Finding.{Finding, IsFoundAfter, IsTold, IsUnreadAfter, Job, MayHold, here, later}
+use Rattle.dom_finding.specs.Finding.{Ask, Finding, IsFoundAfter, IsNext, IsTold, IsUnreadAfter, Job, MayHold, ask, here, later}
+use Rattle.dom_finding.specs.Finding.{reads as reads_text}
 use Rattle.dom_finding.specs.Refusals.{refusal_status, words_line}
 use Rattle.dom_finding.specs.Stops.{AreKept, StopAfter}
 use Rattle.dom_finding.specs.declared.reading.Stop.{Stop}
 use Rattle.dom_finding.specs.declared.reading.Stop.TheVariants.{Refused, Unread, Memory}
 use Rattle.dom_finding.specs.declared.refusals.Refusal.{Refusal}
 use Rattle.dom_finding.specs.declared.refusals.Refusal.TheVariants as refusal
-use Rattle.dom_finding.proofs.OneFinding.{found_in_weaker, one_finding, told_may}
+use Rattle.dom_finding.proofs.OneFinding.{found_in_weaker, one_finding, told_may, unread_in_weaker}
 use Rattle.dom_shell.specs.Call as said
 use Rattle.dom_shell.specs.Call.{Answers, IsAnswer, IsPut, IsPutInPart, IsResult, IsUnread, bytes_of, report_of, status_of}
-use Rattle.dom_shell.specs.Ends.{AreStopped, Call, IsEnd, IsEndAfter, IsUnput, Sent, Tried, cut, ends, fails, no_command, some_command, wants, whole}
+use Rattle.dom_shell.specs.Ends.{AreStopped, Call, IsEnd, IsEndAfter, Sent, Tried, call_of, cut, ends, fails, no_command, some_command, wants, whole}
 
 -- A refusal's status is 1 or 3.
 
 status_small : (r : Refusal) → refusal_status r ≤ 3
-status_small refusal.NotBuilt = omega arith
 status_small refusal.ProgramLimit = omega arith
 status_small (refusal.Lex f) = omega arith
 status_small (refusal.Parse f) = omega arith
 status_small (refusal.Check f) = omega arith
+status_small (refusal.Statements n) = omega arith
+status_small (refusal.Outside n) = omega arith
+status_small (refusal.Deep chain) = omega arith
+status_small (refusal.Full n kind stage) = omega arith
+status_small refusal.ConfigLimit = omega arith
+status_small (refusal.ConfigLine n) = omega arith
+status_small refusal.UnknownTarget = omega arith
+status_small (refusal.Config kind stage atom) = omega arith
+status_small (refusal.Stage depth) = omega arith
 status_small refusal.TraceLimit = omega arith
 status_small (refusal.Trace f) = omega arith
 
 status_not_two : (r : Refusal) → refusal_status r ≡ 2 → ⊥
-status_not_two refusal.NotBuilt e = omega arith
 status_not_two refusal.ProgramLimit e = omega arith
 status_not_two (refusal.Lex f) e = omega arith
 status_not_two (refusal.Parse f) e = omega arith
 status_not_two (refusal.Check f) e = omega arith
+status_not_two (refusal.Statements n) e = omega arith
+status_not_two (refusal.Outside n) e = omega arith
+status_not_two (refusal.Deep chain) e = omega arith
+status_not_two (refusal.Full n kind stage) e = omega arith
+status_not_two refusal.ConfigLimit e = omega arith
+status_not_two (refusal.ConfigLine n) e = omega arith
+status_not_two refusal.UnknownTarget e = omega arith
+status_not_two (refusal.Config kind stage atom) e = omega arith
+status_not_two (refusal.Stage depth) e = omega arith
 status_not_two refusal.TraceLimit e = omega arith
 status_not_two (refusal.Trace f) e = omega arith
 
@@ -191,22 +208,37 @@ module _ {words : List (List ℕ)} {call : Call} where
   unput (some_command c n (fails u l p)) e = p.unput
   unput (some_command c n (wants k p)) e = p.unput
 
+-- Where the files are the same, the same may be held.
+same_may : (files mid : List ℕ → Option (List ℕ)) → ((name : List ℕ) → mid name ≡ files name) → (name text : List ℕ) → MayHold mid name text → MayHold files name text
+same_may files mid same name text holds = subst (λ (o : Option (List ℕ)). IfSome o (λ told. told ≡ text)) (same name) holds
+
 -- How a command ends, from what it did.
 
-module _ (command : Command) (call : Call) where
+module _ (command : Command) (texts : List (List ℕ)) (call : Call) where
   -- a report that was put, or that the sink did not take
-  pub report_end : (job : Job) (result : Result (Unit {0}) SinkFault) → IsFoundAfter (MayHold call.files) command [] (Ok job) → AreKept call.unread_before call.unread_after
+  pub report_end : (job : Job) (result : Result (Unit {0}) SinkFault) → IsFoundAfter (MayHold call.files) command texts (Ok job) → AreKept call.unread_before call.unread_after
       → Puts call.sent.held_before call.sent.held_after (report_of call.hash job) result → HasCause call.sent.faults_before call.sent.faults_after result
-      → MatchResult result (λ _. call.sent.answer ≡ 0) (λ _. call.sent.answer ≡ 5) → IsEndAfter command call
+      → MatchResult result (λ _. call.sent.answer ≡ 0) (λ _. call.sent.answer ≡ 5) → IsEndAfter command texts call
   report_end job (Ok x) found kept bytes cause is = ends (Ok job) found kept (whole is bytes cause.kept)
   report_end job (Err e) found kept bytes cause is = ends (Ok job) found kept (cut is bytes cause.failed cause.later)
 
   -- a stop
-  pub stop_end : (stop : Stop) → StopAfter command [] call.files call.unread_before call.unread_after stop → AreStopped stop call.sent → IsEndAfter command call
+  pub stop_end : (stop : Stop) → StopAfter command texts call.files call.unread_before call.unread_after stop → AreStopped stop call.sent → IsEndAfter command texts call
   stop_end (Refused r) cause (inl t) = ends (Err r) cause.0 cause.1 t
   stop_end (Refused r) cause (inr want) = wants cause.1 want
   stop_end Unread cause unput_is = fails cause.0 cause.1 unput_is
   stop_end Memory cause want = wants cause want
+
+-- An end behind the next text, whose read moved nothing, is an end before it.
+pub end_read_on : (command : Command) (texts : List (List ℕ)) (a : Ask) (text : List ℕ) (hash : Hash) (files mid : List ℕ → Option (List ℕ)) (before then now : List ℕ → ℕ) (sent : Sent)
+    → IsNext command texts (ask a) → MayHold files a.name text → length text ≤ a.most → ((name : List ℕ) → mid name ≡ files name) → AreKept before then
+    → IsEndAfter command (text ∷ texts) (call_of hash mid then now sent) → IsEndAfter command texts (call_of hash files before now sent)
+end_read_on command texts a text hash files mid before then now sent next holds few same kept (ends found x k t) =
+    ends found (reads_text a text next holds few (found_in_weaker (MayHold mid) (MayHold files) command (text ∷ texts) found (same_may files mid same) x)) (λ name. k name ∙ kept name) t
+end_read_on command texts a text hash files mid before then now sent next holds few same kept (fails u l p) =
+    fails (later a text next holds few (unread_in_weaker (MayHold mid) (MayHold files) command (text ∷ texts) before then now (same_may files mid same) kept u))
+    (λ name. let e = kept name in let m = l name in omega arith) p
+end_read_on command texts a text hash files mid before then now sent next holds few same kept (wants k p) = wants (λ name. k name ∙ kept name) p
 
 -- A count that stands at 0 has not risen.
 

@@ -1,2 +1,12 @@
+pub mod Clocked
+pub mod Compiled
+pub mod CompiledTexts
 pub mod Ended
+pub mod ExecRuns
+pub mod Headline
+pub mod Over
+pub mod SmallNumbers
+pub mod SmallTrees
+pub mod Tasked
 pub mod Texts
+pub mod WordLines

@@ -1,18 +1,21 @@
 -- What a call answers: its status, and the bytes that it puts.
-use Rattle.std.specs.Prelude.{◌≡◌, ℕ, ◌⊎◌, Option, Some, None, List, [], ◌∷◌, map, Ok, Err}
+use Rattle.std.specs.Prelude.{◌≡◌, ℕ, ◌⊎◌, Option, Some, None, List, [], map, Ok, Err}
 use Rattle.dom_io.specs.Held.{IsPart, appended}
 use Rattle.trace_text.specs.Trace.{entries}
 use Rattle.dom_words.specs.State.{Hash}
 use Rattle.dom_finding.specs.Command.{Command, command_of}
-use Rattle.dom_finding.specs.Finding.{Finding, IsFoundAfter, IsTold, IsUnreadAfter, Job, MayHold, clocked, in_turn}
+use Rattle.dom_finding.specs.Finding.{Finding, IsFoundAfter, IsTold, IsUnreadAfter, Job, MayHold, clocked, in_turn, watched, written}
 use Rattle.dom_finding.specs.Refusals.{refusal_line, refusal_status, words_line}
-use Rattle.dom_report.specs.Report.{report}
+use Rattle.dom_report.specs.RunReport.{run_report}
 use Rattle.dom_report.specs.SerialReport.{serial_report}
+use Rattle.dom_report.specs.WatchReport.{watch_report}
 
 -- what is put of a job
 abbrev pub report_of : Hash → Job → List ℕ
-report_of hash (clocked n packets) = report (n.added ∷ n.sum ∷ []) n.state (entries packets)
+report_of hash (clocked parts packets) = run_report hash parts (entries packets)
+report_of hash (watched parts packets) = watch_report hash parts (entries packets)
 report_of hash (in_turn c packets) = serial_report hash c (map (λ p. p.1) packets)
+report_of hash (written text) = text
 
 -- the status and the bytes of what a command found
 abbrev pub status_of : Finding → ℕ

@@ -52,13 +52,14 @@ AreStopped (Refused r) s = Tried (refusal_status r) (refusal_line r) s ⊎ IsUnp
 AreStopped Unread s = IsUnput 4 s
 AreStopped Memory s = IsUnput 6 s
 
--- how a command ends: what it found was tried to be put, a file that it wants could not be read, or memory was wanting
-pub data IsEndAfter (command : Command) (call : Call) : Type 0 where
-  ends : (found : Finding) → IsFoundAfter (MayHold call.files) command [] found → AreKept call.unread_before call.unread_after → Tried (status_of found) (bytes_of call.hash found) call.sent → IsEndAfter command call
-  fails : IsUnreadAfter (MayHold call.files) command [] call.unread_before call.unread_after → HaveNotFallen call.unread_before call.unread_after → IsUnput 4 call.sent → IsEndAfter command call
-  wants : AreKept call.unread_before call.unread_after → IsUnput 6 call.sent → IsEndAfter command call
+-- how a command ends after these texts: what it found was tried to be put, a file that it wants could not be read, or memory
+-- was wanting
+pub data IsEndAfter (command : Command) (texts : List (List ℕ)) (call : Call) : Type 0 where
+  ends : (found : Finding) → IsFoundAfter (MayHold call.files) command texts found → AreKept call.unread_before call.unread_after → Tried (status_of found) (bytes_of call.hash found) call.sent → IsEndAfter command texts call
+  fails : IsUnreadAfter (MayHold call.files) command texts call.unread_before call.unread_after → HaveNotFallen call.unread_before call.unread_after → IsUnput 4 call.sent → IsEndAfter command texts call
+  wants : AreKept call.unread_before call.unread_after → IsUnput 6 call.sent → IsEndAfter command texts call
 
 -- how a call ends: its words are of no form, or as their command does
 pub data IsEnd (words : List (List ℕ)) (call : Call) : Type 0 where
   no_command : command_of words ≡ None → AreKept call.unread_before call.unread_after → Tried 2 words_line call.sent → IsEnd words call
-  some_command : (command : Command) → command_of words ≡ Some command → IsEndAfter command call → IsEnd words call
+  some_command : (command : Command) → command_of words ≡ Some command → IsEndAfter command [] call → IsEnd words call

@@ -1,12 +1,21 @@
+mod clock;
+mod compile;
+mod config;
+mod over;
+mod program;
 mod run;
 mod serial;
+mod targets;
+mod task;
 
-ghost use Rattle.std.specs.Prelude.{◌≡◌, ℕ, List};
+ghost use Rattle.std.specs.Prelude.{◌≡◌, ℕ, List, []};
 ghost use Rattle.dom_finding.specs.CommandForm.{command_in};
 ghost use Rattle.dom_shell.specs.Ends.{IsEndAfter, call_of, sent_as};
 
-use crate::commands::run::run;
+use crate::commands::config::with_config;
+use crate::commands::program::with_program;
 use crate::commands::serial::serial;
+use crate::commands::task::{ConfigTask, Task};
 use dom_finding::Command;
 use dom_io::{Shelf, Sink};
 use dom_words::HashUnits;
@@ -20,11 +29,19 @@ pub(crate) fn perform<F: Shelf, S: Sink, H: HashUnits>(
     sink: &mut S,
     hash: &H,
 ) -> u8
-    ensures end { IsEndAfter (command_in command.entry) (call_of (H.meaning hash.now) (F.content shelf.old) (F.faults shelf.old) (F.faults shelf.new) (sent_as result (S.held sink.old) (S.held sink.new) (S.faults sink.old) (S.faults sink.new))) }
+    ensures end { IsEndAfter (command_in command.entry) [] (call_of (H.meaning hash.now) (F.content shelf.old) (F.faults shelf.old) (F.faults shelf.new) (sent_as result (S.held sink.old) (S.held sink.new) (S.faults sink.old) (S.faults sink.new))) }
     ensures files { (name : List ℕ) → F.content shelf.new name ≡ F.content shelf.old name }
 {
     match command {
-        Command::Run(files) => run(alloc, files, shelf, sink, hash),
+        Command::Run { target, files } => {
+            let task = Task::Run(files.trace);
+            with_program(alloc, target, task, files.program, shelf, sink, hash)
+        }
         Command::Serial(files) => serial(alloc, files, shelf, sink, hash),
+        Command::Compile { target, program } => {
+            with_program(alloc, target, Task::Compile, program, shelf, sink, hash)
+        }
+        Command::Exec(files) => with_config(alloc, ConfigTask::Exec, files, shelf, sink, hash),
+        Command::Watch(files) => with_config(alloc, ConfigTask::Watch, files, shelf, sink, hash),
     }
 }

@@ -7,3 +7,4 @@ mod ending;
 pub mod laws;
 
 pub use call::domino;
+pub use dom_report::drive;

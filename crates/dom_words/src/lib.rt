@@ -10,8 +10,6 @@ mod operators;
 mod packet;
 mod seq;
 mod spelling;
-#[cfg(test)]
-mod tests;
 mod units;
 
 pub use array::{Array, ArrayList, FileList};

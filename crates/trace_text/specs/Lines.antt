@@ -51,6 +51,26 @@ state_line name index word = line_of (codes "state" ∷ name ∷ count_text inde
 abbrev pub place_line : List ℕ → ℕ → List ℕ
 place_line name stage = line_of (codes "place" ∷ name ∷ count_text stage ∷ [])
 
+-- a tap: its number and its value
+abbrev pub tap_line : ℕ → ℕ → List ℕ
+tap_line number value = line_of (codes "tap" ∷ count_text number ∷ count_text value ∷ [])
+
+-- a cycle begins, counted from 0
+abbrev pub clock_line : ℕ → List ℕ
+clock_line cycle = line_of (codes "cycle" ∷ count_text cycle ∷ [])
+
+-- a packet leaves, with these words
+abbrev pub out_line : List ℕ → List ℕ
+out_line words = line_of (codes "out" ∷ map word_text words)
+
+-- register `k` is filled, with these words
+abbrev pub reg_line : ℕ → List ℕ → List ℕ
+reg_line k words = line_of (codes "reg" ∷ count_text k ∷ map word_text words)
+
+-- a stage touches an element: the stage, the array's name and the element's index
+abbrev pub touch_line : ℕ → List ℕ → ℕ → List ℕ
+touch_line stage name index = line_of (codes "touch" ∷ count_text stage ∷ name ∷ count_text index ∷ [])
+
 -- the end: how many packets, and in how many cycles where cycles are counted
 abbrev pub done_line : ℕ → Option ℕ → List ℕ
 done_line packets cycles = line_of (codes "done" ∷ count_text packets ∷ map count_text (option_to_list cycles))

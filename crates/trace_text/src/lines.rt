@@ -1,7 +1,7 @@
 ghost use Rattle.std.specs.Prelude.{◌≡◌, ◌+◌, ◌*◌, ◌<◌, ◌≤◌, ◌⊎◌, ℕ, All, List, [], ◌∷◌, ◌++◌, codes, length, map, max, vec_capacity, vec_len, IfOk, IfSome};
 ghost use Rattle.dom_io.specs.Causes.{HasCause};
 ghost use Rattle.dom_io.specs.Held.{Puts};
-ghost use Rattle.trace_text.specs.Lines.{after_commas, count_text, done_line, head_line, HasRoom, name_at, packet_line, place_line, state_line, word_text};
+ghost use Rattle.trace_text.specs.Lines.{after_commas, clock_line, count_text, done_line, head_line, HasRoom, name_at, out_line, packet_line, place_line, reg_line, state_line, tap_line, touch_line, word_text};
 
 use dom_io::{Sink, SinkFault};
 use dom_words::{ArrayList, Memory, Name, Names, Seq, signed};
@@ -121,6 +121,74 @@ impl Lines {
         self.line.start(b"place");
         self.line.text(self.arrays.get(array).as_bytes());
         self.line.count(u64::from(stage));
+        self.line.put(sink)
+    }
+
+    /// Puts the line of a tap: its number and its value.
+    pub fn tap<S: Sink>(&mut self, sink: &mut S, number: u64, value: u64) -> Result<(), SinkFault>
+        ensures bytes { Puts (S.held sink.old) (S.held sink.new) (tap_line number value) result }
+        ensures cause { HasCause (S.faults sink.old) (S.faults sink.new) result }
+        ensures same { self.new ≡ self.old }
+    {
+        self.line.start(b"tap");
+        self.line.count(number);
+        self.line.count(value);
+        self.line.put(sink)
+    }
+
+    /// Puts the line with which a cycle begins: its number, from 0.
+    pub fn clock<S: Sink>(&mut self, sink: &mut S, cycle: u64) -> Result<(), SinkFault>
+        ensures bytes { Puts (S.held sink.old) (S.held sink.new) (clock_line cycle) result }
+        ensures cause { HasCause (S.faults sink.old) (S.faults sink.new) result }
+        ensures same { self.new ≡ self.old }
+    {
+        self.line.start(b"cycle");
+        self.line.count(cycle);
+        self.line.put(sink)
+    }
+
+    /// Puts the line of a packet that leaves: its words as signed numbers.
+    pub fn out<S: Sink>(&mut self, sink: &mut S, words: &[u32]) -> Result<(), SinkFault>
+        requires { length words.now ≤ self.old.words }
+        ensures bytes { Puts (S.held sink.old) (S.held sink.new) (out_line words.now) result }
+        ensures cause { HasCause (S.faults sink.old) (S.faults sink.new) result }
+        ensures same { self.new ≡ self.old }
+    {
+        self.line.start(b"out");
+        self.line.words(words);
+        self.line.put(sink)
+    }
+
+    /// Puts the line of a filled register: its number, from 0, and the words of its containers as signed numbers.
+    pub fn reg<S: Sink>(&mut self, sink: &mut S, k: u32, words: &[u32]) -> Result<(), SinkFault>
+        requires { length words.now ≤ self.old.words }
+        ensures bytes { Puts (S.held sink.old) (S.held sink.new) (reg_line k words.now) result }
+        ensures cause { HasCause (S.faults sink.old) (S.faults sink.new) result }
+        ensures same { self.new ≡ self.old }
+    {
+        self.line.start(b"reg");
+        self.line.count(u64::from(k));
+        self.line.words(words);
+        self.line.put(sink)
+    }
+
+    /// Puts the line of an element that a stage touches: the stage, the name of the array, counted from 0, and the index.
+    pub fn touch<S: Sink>(
+        &mut self,
+        sink: &mut S,
+        stage: u32,
+        array: usize,
+        index: u32,
+    ) -> Result<(), SinkFault>
+        requires { array < length self.old.arrays }
+        ensures bytes { Puts (S.held sink.old) (S.held sink.new) (touch_line stage (name_at self.old.arrays array) index) result }
+        ensures cause { HasCause (S.faults sink.old) (S.faults sink.new) result }
+        ensures same { self.new ≡ self.old }
+    {
+        self.line.start(b"touch");
+        self.line.count(u64::from(stage));
+        self.line.text(self.arrays.get(array).as_bytes());
+        self.line.count(u64::from(index));
         self.line.put(sink)
     }
 

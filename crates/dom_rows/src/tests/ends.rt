@@ -134,15 +134,16 @@ impl Read for Pieces {
     }
 }
 
+const SHORT_WRITES: [(usize, bool, Result<(), SinkFault>, &str, u32); 4] = [
+    (1, true, Ok(()), "one,", 1),
+    (3, true, Ok(()), "one,", 1),
+    (9, false, Err(SinkFault), "one,", 1),
+    (0, true, Err(SinkFault), "", 0),
+];
+
 #[test]
 fn short_writes(rt: HostRuntime) -> Result<(), Fail> {
-    let rows = [
-        (1, true, Ok(()), "one,", 1),
-        (3, true, Ok(()), "one,", 1),
-        (9, false, Err(SinkFault), "one,", 1),
-        (0, true, Err(SinkFault), "", 0),
-    ];
-    for (step, is_flushed, answer, held, flushes) in rows {
+    for (step, is_flushed, answer, held, flushes) in SHORT_WRITES {
         let mut out = Slow {
             held: Vec::new(rt.alloc()),
             step,
@@ -156,17 +157,18 @@ fn short_writes(rt: HostRuntime) -> Result<(), Fail> {
     Ok(())
 }
 
+const SHORT_READS: [(usize, Option<u32>, usize, Option<&str>); 6] = [
+    (1, None, 4, Some("five")),
+    (3, None, 4, Some("five")),
+    (3, None, 99, Some("five bytes")),
+    (1, Some(3), 4, None),
+    (1, Some(4), 4, Some("five")),
+    (0, None, 4, Some("")),
+];
+
 #[test]
 fn short_reads(rt: HostRuntime) -> Result<(), Fail> {
-    let rows = [
-        (1, None, 4, Some("five")),
-        (3, None, 4, Some("five")),
-        (3, None, 99, Some("five bytes")),
-        (1, Some(3), 4, None),
-        (1, Some(4), 4, Some("five")),
-        (0, None, 4, Some("")),
-    ];
-    for (step, before, most, answer) in rows {
+    for (step, before, most, answer) in SHORT_READS {
         let mut pieces = Pieces {
             bytes: Vec::from_slice(rt.alloc(), b"five bytes")?,
             place: 0,

@@ -2,6 +2,19 @@ use dom_words::{Name, Names, Packet};
 use std::test::Fail;
 use trace_text::{TraceFault, read_trace};
 
+const REFUSED: [(&[u8], TraceFault); 10] = [
+    (b"", TraceFault::NoHeader),
+    (b"x\n", TraceFault::UnknownColumn(1)),
+    (b"gap,y\n", TraceFault::UnknownColumn(2)),
+    (b"gap,x,sum,x\n", TraceFault::ColumnTwice(4)),
+    (b"gap,x\n0,5\n0\n", TraceFault::RowLength(2)),
+    (b"gap,x\n0,5,6\n", TraceFault::RowLength(1)),
+    (b"gap,x\n0,4294967296\n", TraceFault::BadValue(1, 2)),
+    (b"gap,x\n-1,y\n", TraceFault::BadValue(1, 1)),
+    (b"gap\n1999996\n", TraceFault::TooManyCycles(2_000_002)),
+    (b"gap\n1999994\n1\n", TraceFault::TooManyCycles(2_000_002)),
+];
+
 #[test]
 fn traces(rt: HostRuntime) -> Result<(), Fail> {
     let mut fields = Names::new(rt.alloc());
@@ -16,19 +29,7 @@ fn traces(rt: HostRuntime) -> Result<(), Fail> {
         assert_eq!(rt; trace.gap(k), gap);
         assert_eq!(rt; packet.words(), words.as_slice());
     }
-    let refused: [(&[u8], TraceFault); 10] = [
-        (b"", TraceFault::NoHeader),
-        (b"x\n", TraceFault::UnknownColumn(1)),
-        (b"gap,y\n", TraceFault::UnknownColumn(2)),
-        (b"gap,x,sum,x\n", TraceFault::ColumnTwice(4)),
-        (b"gap,x\n0,5\n0\n", TraceFault::RowLength(2)),
-        (b"gap,x\n0,5,6\n", TraceFault::RowLength(1)),
-        (b"gap,x\n0,4294967296\n", TraceFault::BadValue(1, 2)),
-        (b"gap,x\n-1,y\n", TraceFault::BadValue(1, 1)),
-        (b"gap\n1999996\n", TraceFault::TooManyCycles(2_000_002)),
-        (b"gap\n1999994\n1\n", TraceFault::TooManyCycles(2_000_002)),
-    ];
-    for (text, fault) in refused {
+    for (text, fault) in REFUSED {
         assert!(rt; text.len() <= 16_777_216);
         let answer = read_trace(rt.alloc(), text, &fields, 5);
         assert_eq!(rt; answer.err(), Some(fault));

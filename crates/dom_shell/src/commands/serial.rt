@@ -36,7 +36,7 @@ pub(crate) fn serial<F: Shelf, S: Sink, H: HashUnits>(
     sink: &mut S,
     hash: &H,
 ) -> u8
-    ensures end { IsEndAfter (serial_of (names_in files.entry)) (call_of (H.meaning hash.now) (F.content shelf.old) (F.faults shelf.old) (F.faults shelf.new) (sent_as result (S.held sink.old) (S.held sink.new) (S.faults sink.old) (S.faults sink.new))) }
+    ensures end { IsEndAfter (serial_of (names_in files.entry)) [] (call_of (H.meaning hash.now) (F.content shelf.old) (F.faults shelf.old) (F.faults shelf.new) (sent_as result (S.held sink.old) (S.held sink.new) (S.faults sink.old) (S.faults sink.new))) }
     ensures files { (name : List ℕ) → F.content shelf.new name ≡ F.content shelf.old name }
 {
     match prepare(alloc, files, shelf) {

@@ -1,4 +1,4 @@
-use Rattle.atom_traits.specs.OperationLaws.{same_operation}
+use Rattle.atom_traits.proofs.OperationLaws.{same_operation}
 use Rattle.atom_traits.proofs.laws.operations_agree.Goals as goal
 
 pub returns : goal.returns

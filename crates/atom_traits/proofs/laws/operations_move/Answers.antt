@@ -1,4 +1,4 @@
-use Rattle.atom_traits.specs.OperationLaws.{operation_moves}
+use Rattle.atom_traits.proofs.OperationLaws.{operation_moves}
 use Rattle.atom_traits.proofs.laws.operations_move.Goals as goal
 
 pub returns : goal.returns

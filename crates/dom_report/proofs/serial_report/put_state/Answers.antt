@@ -1,4 +1,4 @@
-use Rattle.std.proofs.Common.{◌<◌, ◌≡◌, ◌∙◌, arith, length}
+use Rattle.std.proofs.Common.{◌<◌, ◌∙◌, arith, length}
 use Rattle.dom_report.proofs.InTurn.{array_more, array_stop, same_count}
 use Rattle.dom_report.proofs.serial_report.put_state.Goals as goal
 

@@ -1,0 +1,54 @@
+#!/usr/bin/env bash
+# Times `domino compile pairs-large` on programs of 64 to 512 statements, start-up included: statements without state in
+# 64 chains, which compile; one class of statements, which is outside; and for 512 statements one chain, which is too deep;
+# then a chain of `else if` with 3,850 assignments, which has too many statements. It reports and judges nothing: it
+# always ends with status 0.
+# bench/timing.sh says what it wants and which variables it heeds.
+set -u
+. "$(dirname "${BASH_SOURCE[0]}")/timing.sh"
+
+loose_program() { # so many statements in 64 chains
+    printf 'struct P {'
+    for ((k = 0; k < 64; k++)); do printf ' int f%d;' "$k"; done
+    printf ' };\nvoid loose(struct P p) {\n'
+    for ((k = 0; k < $1; k++)); do printf '  p.f%d = p.f%d + %d;\n' $((k % 64)) $((k % 64)) "$k"; done
+    printf '}\n'
+}
+
+class_program() { # the flanks, and all other statements between them
+    printf 'struct P { int x; };\nint s;\nvoid class(struct P p) {\n'
+    for ((k = 2; k < $1; k++)); do printf '  s = s * %d;\n' "$k"; done
+    printf '}\n'
+}
+
+chain_program() { # each statement uses the one before it
+    printf 'struct P { int x; };\nvoid chain(struct P p) {\n'
+    for ((k = 0; k < $1; k++)); do printf '  p.x = p.x + %d;\n' "$k"; done
+    printf '}\n'
+}
+
+choices_program() { # so many assignments behind 62 conditionals, each in the `else` of the one before
+    printf 'struct P { int x; };\nint s;\nvoid choices(struct P p) {\n'
+    for ((k = 0; k < 62; k++)); do printf 'if (p.x == %d) { } else ' "$k"; done
+    printf '{'
+    for ((k = 0; k < $1; k++)); do printf 's=%d;' "$k"; done
+    printf '}\n}\n'
+}
+
+# row NAME STATEMENTS PROGRAM
+row() {
+    local out
+    out="$("$program" compile pairs-large "$3" 2>&1)"
+    printf '%-10s %10s %14s  %.40s\n' "$1" "$2" "$(taken compile pairs-large "$3")" "${out%%$'\n'*}"
+}
+
+printf '%-10s %10s %14s  %s\n' program statements "$unit" 'first line'
+for count in 64 128 256 512; do
+    loose_program "$count" >loose.dom && row loose "$count" loose.dom
+done
+for count in 64 128 256 512; do
+    class_program "$count" >class.dom && row class "$count" class.dom
+done
+chain_program 512 >chain512.dom && row chain 512 chain512.dom
+choices_program 3850 >choices.dom && row choices 3850 choices.dom
+exit 0

@@ -1,0 +1,3 @@
+-- Why the contracts hold.
+pub mod Fits
+pub mod Stages

@@ -1,0 +1,2 @@
+-- What is made of codelets, their atoms and their places.
+pub mod Adding

@@ -1,0 +1,11 @@
+mod atoms;
+mod configs;
+mod cuts;
+mod grammar;
+mod lists;
+mod passes;
+mod programs;
+mod rows;
+mod tables;
+mod tokens;
+mod values;

@@ -1,0 +1,22 @@
+-- Why the laws and the contracts hold.
+pub mod Every
+pub mod Least
+pub mod Greedy
+pub mod Count
+pub mod Order
+pub mod Fields
+pub mod Rules
+pub mod Renaming
+pub mod Made
+pub mod Apart
+pub mod State
+pub mod Agreed
+pub mod Meaning
+pub mod Lists
+pub mod Lawful
+pub mod Legal
+pub mod Marking
+pub mod Plans
+pub mod Names
+pub mod Samples
+pub mod Ready

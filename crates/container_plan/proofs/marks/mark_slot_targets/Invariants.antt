@@ -1,0 +1,8 @@
+use Rattle.std.proofs.Common.{◌≡◌, take}
+use Rattle.std.specs.List.{flat_map}
+use Rattle.banzai_config.specs.Named.{slot_targets}
+use Rattle.container_plan.specs.Marks.{marked}
+use Rattle.container_plan.proofs.marks.mark_slot_targets.Given as goal
+
+abbrev pub invariant-loop-slot : goal.invariant-loop-slot
+invariant-loop-slot l = l.marks ≡ marked l.stage (flat_map slot_targets (take l.slot-index l.slots)) l.fn.marks

@@ -1,0 +1,75 @@
+-- A configuration that a text compiles to does what the text's program does.
+use Rattle.std.proofs.Common.{◌≡◌, ℕ, List, [], ◌∷◌, length, refl, sym, ap, ◌∙◌, subst, Ok}
+use Rattle.std.specs.List.{AllByRecursion}
+use Rattle.dom_words.specs.declared.array.Array.{Array}
+use Rattle.dom_words.specs.State.{Hash, IsStateOf, Meaning, started}
+use Rattle.codelets.specs.declared.answer.Codelets.{Codelets}
+use Rattle.stage_plan.specs.Schedule.{IsPlan}
+use Rattle.stage_plan.proofs.Kept.{is_plan}
+use Rattle.banzai_config.specs.Action.{AloneOutcome, Arrays, alone, outcome_of}
+use Rattle.banzai_config.specs.Legal.{Shape}
+use Rattle.banzai_config.specs.Parts.{PartsForm}
+use Rattle.compile_law.specs.Runs.{IsMeaningOf, in_turn}
+use Rattle.compile_law.proofs.Compiled.{does_as_listed}
+use Rattle.compile_law.proofs.Turns as turns
+use Rattle.dom_ast.specs.Meaning.{one, serial_arrays, serial_packets}
+use Rattle.dom_ast.specs.Resolved.{BodyForm, CheckedForm}
+use Rattle.dom_compile.specs.Answer.{IsCompileAnswer, IsConfigured, IsFitted}
+use Rattle.dom_compile.specs.Compiled.{IsListed}
+use Rattle.dom_compile.specs.Programs.{IsWellFormed}
+use Rattle.dom_compile.specs.Runs.{ActsAs, RunsAs}
+use Rattle.dom_compile.proofs.OneProgram.{one_program}
+
+-- One packet after another is the serial run, where one packet is what the transactions make of it.
+
+module _ (hash : Hash) (bodies : List BodyForm) where
+  packets_in_turn : (state : Arrays) (packets : List (List ℕ)) → (in_turn (one hash bodies) state packets).packets ≡ serial_packets hash bodies state packets
+  packets_in_turn state [] = refl
+  packets_in_turn state (p ∷ ps) = ap (λ (z : List (List ℕ)). (one hash bodies p state).packet ∷ z) (packets_in_turn (one hash bodies p state).arrays ps)
+
+  arrays_in_turn : (state : Arrays) (packets : List (List ℕ)) → (in_turn (one hash bodies) state packets).arrays ≡ serial_arrays hash bodies state packets
+  arrays_in_turn state [] = refl
+  arrays_in_turn state (p ∷ ps) = arrays_in_turn (one hash bodies p state).arrays ps
+
+abbrev means : CheckedForm → Meaning
+means program hash packet state = one hash program.bodies packet state
+
+module _ (s : Shape) (program : CheckedForm) (c : Codelets) (listed : IsListed program c.flat) (parts : PartsForm) (configured : IsConfigured s c parts) where
+  plan : IsPlan s.depth s.stateless s.stateful c.list configured.places
+  plan = is_plan s.depth s.stateless s.stateful c.list configured.places c.leveled configured.placed
+
+  meaning : IsMeaningOf c.flat (means program)
+  meaning hash packet state small words declared =
+      listed.means hash packet state small (words ∙ ap (length {A = List ℕ}) listed.fields) (subst (λ (arrays : List Array). IsStateOf arrays state) listed.arrays declared)
+
+  listed_acts : ActsAs program parts
+  listed_acts hash packet state small words declared =
+      let long : length packet ≡ length c.flat.fields = words ∙ sym (ap (length {A = List ℕ}) listed.fields) in
+      ap (λ (p : PartsForm). outcome_of hash p state packet) configured.parts_are
+      ∙ does_as_listed c s.depth s.stateless s.stateful configured.atoms configured.places configured.atoms_are plan hash state packet long
+      ∙ listed.means hash packet state small words declared
+
+  listed_runs : RunsAs program parts
+  listed_runs hash packets small long =
+      let same : alone hash parts packets ≡ in_turn (one hash program.bodies) (started program.arrays) packets =
+      ap (λ (p : PartsForm). alone hash p packets) configured.parts_are
+      ∙ turns.runs_as c s.depth s.stateless s.stateful configured.atoms configured.places configured.atoms_are plan (means program) meaning hash packets small
+      (subst (λ (fields : List (List ℕ)). AllByRecursion (λ p. length p ≡ length fields) packets) (sym listed.fields) long)
+      ∙ ap (λ (arrays : List Array). in_turn (one hash program.bodies) (started arrays) packets) listed.arrays in
+      record {
+        packets_are = ap (λ (o : AloneOutcome). o.packets) same ∙ packets_in_turn hash program.bodies (started program.arrays) packets;
+        arrays_are = ap (λ (o : AloneOutcome). o.arrays) same ∙ arrays_in_turn hash program.bodies (started program.arrays) packets;
+      }
+
+-- the program of the text is the one that it was compiled as
+listed_for : (s : Shape) (text : List ℕ) (program : CheckedForm) (c : Codelets) → IsWellFormed text program → IsFitted s.fits s.multiplies text c → IsListed program c.flat
+listed_for s text program c well fitted =
+    let e = one_program text (Ok fitted.listed.program) (Ok program) fitted.listed.program_is well in
+    let same : fitted.listed.program ≡ program = cc in
+    subst (λ (p : CheckedForm). IsListed p c.flat) same fitted.listed.listed_is
+
+pub acts_as : (s : Shape) (text : List ℕ) (program : CheckedForm) (parts : PartsForm) → IsWellFormed text program → IsCompileAnswer s text (Ok parts) → ActsAs program parts
+acts_as s text program parts well answer = listed_acts s program answer.0 (listed_for s text program answer.0 well answer.1) parts answer.2
+
+pub runs_as : (s : Shape) (text : List ℕ) (program : CheckedForm) (parts : PartsForm) → IsWellFormed text program → IsCompileAnswer s text (Ok parts) → RunsAs program parts
+runs_as s text program parts well answer = listed_runs s program answer.0 (listed_for s text program answer.0 well answer.1) parts answer.2

@@ -1,4 +1,0 @@
-mod lists;
-mod programs;
-mod tokens;
-mod values;

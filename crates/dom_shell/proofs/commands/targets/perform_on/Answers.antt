@@ -1,0 +1,23 @@
+use Rattle.dom_shell.specs.declared.commands.task.Task.TheVariants as task
+use Rattle.dom_shell.proofs.Tasked.{for_task, read_task}
+use Rattle.dom_shell.proofs.commands.targets.perform_on.Goals as goal
+
+pub compile_on-requires-clause-text : goal.compile_on-requires-clause-text
+compile_on-requires-clause-text g c = read_task c.args.target c.args.text.now c.args.task task.Compile c.in-Compile.is c.requires.text
+
+pub run_on-requires-clause-text : goal.run_on-requires-clause-text
+run_on-requires-clause-text g c = read_task c.args.target c.args.text.now c.args.task (task.Run c.in-Run.trace) c.in-Run.is c.requires.text
+
+pub returns-in-Compile-clause-end : goal.returns-in-Compile-clause-end
+returns-in-Compile-clause-end g c name =
+    for_task c.args.target name c.args.text.now c.args.task task.Compile _ c.in-Compile.is
+    (c.compile_on.ensures name (g.H.HashUnits.meaning c.args.hash.now) (g.F.Shelf.content c.args.shelf.now) (g.F.Shelf.faults c.args.shelf.now))
+
+pub returns-in-Run-clause-end : goal.returns-in-Run-clause-end
+returns-in-Run-clause-end g c name =
+    for_task c.args.target name c.args.text.now c.args.task (task.Run c.in-Run.trace) _ c.in-Run.is (c.run_on.ensures.end name)
+
+pub returns-in-Config-clause-end : goal.returns-in-Config-clause-end
+returns-in-Config-clause-end g c name =
+    for_task c.args.target name c.args.text.now c.args.task (task.Config c.in-Config.what c.in-Config.parts c.in-Config.trace) _ c.in-Config.is
+    (c.over_on.ensures.end name c.args.text.now (read_task c.args.target c.args.text.now c.args.task (task.Config c.in-Config.what c.in-Config.parts c.in-Config.trace) c.in-Config.is c.requires.text))

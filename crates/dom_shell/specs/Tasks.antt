@@ -1,0 +1,39 @@
+-- What is to be done for a target.
+use Rattle.std.specs.Prelude.{⊤, ℕ, ◌≤◌, List, length}
+use Rattle.banzai_config.specs.Parts.{PartsForm, parts_form}
+use Rattle.banzai_config.specs.declared.target.Target.{Target}
+use Rattle.config_text.specs.Fronts.{TextOf}
+use Rattle.dom_compile.specs.Programs.{most_program}
+use Rattle.dom_finding.specs.Command.{Command, ConfigNames, compile, configs_named, exec, files_named, run, watch}
+use Rattle.dom_finding.specs.Finding.{Job, Packets, clocked, watched}
+use Rattle.dom_shell.specs.declared.commands.task.ConfigTask.{ConfigTask}
+use Rattle.dom_shell.specs.declared.commands.task.ConfigTask.TheVariants as config
+use Rattle.dom_shell.specs.declared.commands.task.Task.{Task}
+use Rattle.dom_shell.specs.declared.commands.task.Task.TheVariants as task
+
+-- the command over a configuration that asks for this, and its job
+abbrev pub command_over : ConfigTask → ConfigNames → Command
+command_over config.Exec names = exec names
+command_over config.Watch names = watch names
+
+abbrev pub job_over : ConfigTask → PartsForm → Packets → Job
+job_over config.Exec parts packets = clocked parts packets
+job_over config.Watch parts packets = watched parts packets
+
+-- the command that asks for a task, where the first file has this name
+abbrev pub command_for : Target → List ℕ → Task → Command
+command_for target name task.Compile = compile target name
+command_for target name (task.Run trace) = run target (files_named name trace.now)
+command_for target name (task.Config what parts trace) = command_over what (configs_named name trace.now)
+
+-- its first file is a program
+abbrev pub IsOnProgram : Task → Type 0
+IsOnProgram task.Compile = ⊤
+IsOnProgram (task.Run trace) = ⊤
+IsOnProgram (task.Config what parts trace) = ⊥
+
+-- what is known of the text of the first file: a program is within its limit, and a configuration has the parts
+abbrev pub IsReadFor : Target → Task → List ℕ → Type 0
+IsReadFor target task.Compile text = length text ≤ most_program
+IsReadFor target (task.Run trace) text = length text ≤ most_program
+IsReadFor target (task.Config what parts trace) text = TextOf target (parts_form parts) text
