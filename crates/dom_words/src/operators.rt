@@ -46,6 +46,7 @@ pub fn apply_un(op: UnOp, a: u32) -> u32
 }
 
 /// What the operator gives on the words (docs/LANGUAGE.md, "Operators").
+#[inline(always)]
 pub fn apply_bin(op: BinOp, a: u32, b: u32) -> u32
     ensures { result ≡ bin_word op a b }
 {

@@ -229,6 +229,7 @@ impl Line {
     }
 
     // Begins the next line with this text.
+    #[inline(always)]
     fn start(&mut self, text: &[u8])
         requires { length text.now ≤ self.old.room }
         ensures text { self.new.bytes.items ≡ text.now }
@@ -239,6 +240,7 @@ impl Line {
         self.append(text);
     }
 
+    #[inline(always)]
     fn append(&mut self, text: &[u8])
         requires { vec_len self.old.bytes + length text.now ≤ self.old.room }
         ensures text { self.new.bytes.items ≡ self.old.bytes.items ++ text.now }
@@ -251,6 +253,7 @@ impl Line {
     }
 
     // A comma and the text.
+    #[inline(always)]
     fn text(&mut self, text: &[u8])
         requires { vec_len self.old.bytes + length text.now < self.old.room }
         ensures text { self.new.bytes.items ≡ self.old.bytes.items ++ 44 ∷ text.now }
@@ -272,6 +275,7 @@ impl Line {
     }
 
     // A comma and the word, in signed decimals.
+    #[inline(always)]
     fn word(&mut self, word: u32)
         requires { vec_len self.old.bytes + 12 ≤ self.old.room }
         ensures text { self.new.bytes.items ≡ self.old.bytes.items ++ 44 ∷ word_text word }
@@ -294,6 +298,7 @@ impl Line {
     }
 
     // The words in signed decimals, each after a comma.
+    #[inline(always)]
     fn words(&mut self, words: &[u32])
         requires { vec_len self.old.bytes + 12 * length words.now ≤ self.old.room }
         ensures text { self.new.bytes.items ≡ self.old.bytes.items ++ after_commas (map word_text words.now) }
