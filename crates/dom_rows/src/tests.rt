@@ -8,6 +8,7 @@ use dom_io::{MemShelf, MemSink};
 use dom_shell::domino;
 use dom_words::{FileList, FnvUnits, Memory, Name, Seq};
 use std::alloc::Global;
+use std::process::Abort;
 use std::test::Fail;
 
 const ROOM: usize = 4096;
@@ -78,6 +79,22 @@ fn answered(alloc: Global, command: &str, program: &str, trace: &str) -> Result<
     answer(alloc, command, files, Vec::new(alloc), Vec::new(alloc))
 }
 
+// Each row has a program, a trace and what the command puts over them.
+fn puts_each(
+    rt: &impl Abort,
+    alloc: Global,
+    command: &str,
+    status: u8,
+    rows: &[(&str, &str, &str)],
+) -> Result<(), Fail> {
+    for (program, trace, text) in rows {
+        let given = answered(alloc, command, program, trace)?;
+        assert_eq!(rt; given.status, status);
+        assert_eq!(rt; given.held.as_slice(), text.as_bytes(), "for {program} and {trace}");
+    }
+    Ok(())
+}
+
 fn run(alloc: Global, program: &str, trace: &str) -> Result<Given, Memory> {
     answered(alloc, "run raw-small p t", program, trace)
 }
@@ -103,22 +120,26 @@ fn text_of(
 }
 
 // Traces of the program, and their reports.
-const REPORTS: [(&str, &str); 6] = [
+const REPORTS: [(&str, &str, &str); 6] = [
     (
+        PROGRAM,
         TRACE,
         "cycle,x,sum\n4,5,5\n7,7,12\nstate,total,0,12\nplace,total,1\ndone,2,8\n",
     ),
-    ("gap,x\n", "cycle,x,sum\nplace,total,1\ndone,0,4\n"),
-    ("gap\n1\n", "cycle,x,sum\n5,0,0\nplace,total,1\ndone,1,6\n"),
+    (PROGRAM, "gap,x\n", "cycle,x,sum\nplace,total,1\ndone,0,4\n"),
+    (PROGRAM, "gap\n1\n", "cycle,x,sum\n5,0,0\nplace,total,1\ndone,1,6\n"),
     (
+        PROGRAM,
         "gap,sum,x\n0,9,4294967295",
         "cycle,x,sum\n4,-1,-1\nstate,total,0,-1\nplace,total,1\ndone,1,5\n",
     ),
     (
+        PROGRAM,
         "gap,x\n0,2147483647\r\n\n0,\"1\"\n",
         "cycle,x,sum\n4,2147483647,2147483647\n5,1,-2147483648\nstate,total,0,-2147483648\nplace,total,1\ndone,2,6\n",
     ),
     (
+        PROGRAM,
         "gap,x\n1999995,1\n",
         "cycle,x,sum\n1999999,1,1\nstate,total,0,1\nplace,total,1\ndone,1,2000000\n",
     ),
@@ -126,14 +147,8 @@ const REPORTS: [(&str, &str); 6] = [
 
 #[test]
 fn reports(rt: HostRuntime) -> Result<(), Fail> {
-    for (trace, report) in REPORTS {
-        for command in ["run raw-small p t", "exec c t"] {
-            let given = answered(rt.alloc(), command, PROGRAM, trace)?;
-            assert_eq!(rt; given.status, 0);
-            assert_eq!(rt; given.held.as_slice(), report.as_bytes());
-        }
-    }
-    Ok(())
+    puts_each(&rt, rt.alloc(), "run raw-small p t", 0, &REPORTS)?;
+    puts_each(&rt, rt.alloc(), "exec c t", 0, &REPORTS)
 }
 
 #[test]
@@ -155,29 +170,23 @@ void acc(struct Packet pkt) { hash5 = hash5 + pkt.hash1; pkt._b2 = hash5; }
     Ok(())
 }
 
-const REFUSED_TRACES: [(&str, &str); 10] = [
-    ("", "refused,trace,no-header\n"),
-    ("\n\n", "refused,trace,no-header\n"),
-    ("ga", "refused,trace,unknown-column,1\n"),
-    ("gap,y\n", "refused,trace,unknown-column,2\n"),
-    ("gap,x,sum,x\n", "refused,trace,column-twice,4\n"),
-    ("gap,x\n0\n", "refused,trace,row-length,1\n"),
-    ("gap,x\n0,1\n0,1,1\n", "refused,trace,row-length,2\n"),
-    ("gap,x\n0,\n", "refused,trace,value,1,2\n"),
-    ("gap,x\n\n0,1\n-1,5\n", "refused,trace,value,2,1\n"),
-    ("gap,x\n0,4294967296\n", "refused,trace,value,1,2\n"),
+const REFUSED_TRACES: [(&str, &str, &str); 10] = [
+    (PROGRAM, "", "refused,trace,no-header\n"),
+    (PROGRAM, "\n\n", "refused,trace,no-header\n"),
+    (PROGRAM, "ga", "refused,trace,unknown-column,1\n"),
+    (PROGRAM, "gap,y\n", "refused,trace,unknown-column,2\n"),
+    (PROGRAM, "gap,x,sum,x\n", "refused,trace,column-twice,4\n"),
+    (PROGRAM, "gap,x\n0\n", "refused,trace,row-length,1\n"),
+    (PROGRAM, "gap,x\n0,1\n0,1,1\n", "refused,trace,row-length,2\n"),
+    (PROGRAM, "gap,x\n0,\n", "refused,trace,value,1,2\n"),
+    (PROGRAM, "gap,x\n\n0,1\n-1,5\n", "refused,trace,value,2,1\n"),
+    (PROGRAM, "gap,x\n0,4294967296\n", "refused,trace,value,1,2\n"),
 ];
 
 #[test]
 fn refused_traces(rt: HostRuntime) -> Result<(), Fail> {
-    for (trace, line) in REFUSED_TRACES {
-        let clocked = run(rt.alloc(), PROGRAM, trace)?;
-        assert_eq!(rt; clocked.status, 3);
-        assert_eq!(rt; clocked.held.as_slice(), line.as_bytes());
-        let in_turn = serial(rt.alloc(), PROGRAM, trace)?;
-        assert_eq!(rt; in_turn.status, 3);
-        assert_eq!(rt; in_turn.held.as_slice(), line.as_bytes());
-    }
+    puts_each(&rt, rt.alloc(), "run raw-small p t", 3, &REFUSED_TRACES)?;
+    puts_each(&rt, rt.alloc(), "serial p t", 3, &REFUSED_TRACES)?;
     let clocked = run(rt.alloc(), PROGRAM, "gap,x\n1999996,1\n")?;
     assert_eq!(rt;
         clocked.held.as_slice(),
@@ -209,16 +218,19 @@ const REFUSED_WORDS: [&str; 15] = [
     "exec raw-small c t",
 ];
 
-#[test]
-fn refused_words(rt: HostRuntime) -> Result<(), Fail> {
-    for line in REFUSED_WORDS {
-        let files = files_of(rt.alloc(), PROGRAM, TRACE)?;
-        let none = Vec::new(rt.alloc());
-        let given = answer(rt.alloc(), line, files, none, Vec::new(rt.alloc()))?;
-        assert_eq!(rt; given.status, 2);
-        assert_eq!(rt; given.held.as_slice(), b"refused,words\n".as_slice());
+fn refuses_words(rt: &impl Abort, alloc: Global, lines: &[&str]) -> Result<(), Fail> {
+    for line in lines {
+        let files = files_of(alloc, PROGRAM, TRACE)?;
+        let given = answer(alloc, line, files, Vec::new(alloc), Vec::new(alloc))?;
+        assert_eq!(rt; given.status, 2, "for {line}");
+        assert_eq!(rt; given.held.as_slice(), b"refused,words\n".as_slice(), "for {line}");
     }
     Ok(())
+}
+
+#[test]
+fn refused_words(rt: HostRuntime) -> Result<(), Fail> {
+    refuses_words(&rt, rt.alloc(), &REFUSED_WORDS)
 }
 
 const CUT_REPORTS: [(&str, &str); 4] = [
@@ -255,19 +267,28 @@ const READS: [(&str, &str, &str, u64, u8); 12] = [
     ("exec p t", PROGRAM, TRACE, 1, 3),
 ];
 
+// A row has the number of reads that can succeed: none after them can.
+fn reads_so_many(
+    rt: &impl Abort,
+    alloc: Global,
+    rows: &[(&str, &str, &str, u64, u8)],
+) -> Result<(), Fail> {
+    for (command, program, trace, reads, status) in rows {
+        let files = files_of(alloc, program, trace)?;
+        let mut failing = Vec::new(alloc);
+        for more in 1..9 {
+            failing.push(u64::saturating_add(*reads, more))?;
+        }
+        let given = answer(alloc, command, files, failing, Vec::new(alloc))?;
+        assert_eq!(rt; given.status, *status, "for {command}");
+    }
+    Ok(())
+}
+
 // Each file is read once, in order: where no further read can succeed, the status is the same.
 #[test]
 fn reads(rt: HostRuntime) -> Result<(), Fail> {
-    for (command, program, trace, reads, status) in READS {
-        let files = files_of(rt.alloc(), program, trace)?;
-        let mut failing = Vec::new(rt.alloc());
-        for more in 1..9 {
-            failing.push(u64::saturating_add(reads, more))?;
-        }
-        let given = answer(rt.alloc(), command, files, failing, Vec::new(rt.alloc()))?;
-        assert_eq!(rt; given.status, status);
-    }
-    Ok(())
+    reads_so_many(&rt, rt.alloc(), &READS)
 }
 
 // Nothing is read after a read that failed: where all others succeed, the status is 4.
@@ -398,12 +419,7 @@ void two(struct P p) if (p.k == 0) { b = b + 1; }
 
 #[test]
 fn serial_reports(rt: HostRuntime) -> Result<(), Fail> {
-    for (program, trace, report) in SERIAL_REPORTS {
-        let given = serial(rt.alloc(), program, trace)?;
-        assert_eq!(rt; given.status, 0);
-        assert_eq!(rt; given.held.as_slice(), report.as_bytes());
-    }
-    Ok(())
+    puts_each(&rt, rt.alloc(), "serial p t", 0, &SERIAL_REPORTS)
 }
 
 const REFUSED_DECLARATIONS: [(&str, &str, &str); 34] = [
@@ -637,37 +653,34 @@ const REFUSED_INDEXES: [(&str, &str, &str); 33] = [
     (GUARD, "hash1(a)) { }", "refused,check,shape-of-name,86\n"),
 ];
 
-#[test]
-fn refused_declarations(rt: HostRuntime) -> Result<(), Fail> {
-    for (head, rest, line) in REFUSED_DECLARATIONS {
-        let program = text_of(rt.alloc(), head, "", rest, 0)?;
-        let given = serial(rt.alloc(), program.as_str(), "no trace")?;
+// A row has the two parts of a program, and its refusal.
+fn refuses_programs(
+    rt: &impl Abort,
+    alloc: Global,
+    rows: &[(&str, &str, &str)],
+) -> Result<(), Fail> {
+    for (head, rest, line) in rows {
+        let program = text_of(alloc, head, "", rest, 0)?;
+        let given = serial(alloc, program.as_str(), "no trace")?;
         assert_eq!(rt; given.status, 1, "for {rest}");
         assert_eq!(rt; given.held.as_slice(), line.as_bytes(), "for {rest}");
     }
     Ok(())
+}
+
+#[test]
+fn refused_declarations(rt: HostRuntime) -> Result<(), Fail> {
+    refuses_programs(&rt, rt.alloc(), &REFUSED_DECLARATIONS)
 }
 
 #[test]
 fn refused_names(rt: HostRuntime) -> Result<(), Fail> {
-    for (head, rest, line) in REFUSED_NAMES {
-        let program = text_of(rt.alloc(), head, "", rest, 0)?;
-        let given = serial(rt.alloc(), program.as_str(), "no trace")?;
-        assert_eq!(rt; given.status, 1, "for {rest}");
-        assert_eq!(rt; given.held.as_slice(), line.as_bytes(), "for {rest}");
-    }
-    Ok(())
+    refuses_programs(&rt, rt.alloc(), &REFUSED_NAMES)
 }
 
 #[test]
 fn refused_indexes(rt: HostRuntime) -> Result<(), Fail> {
-    for (head, rest, line) in REFUSED_INDEXES {
-        let program = text_of(rt.alloc(), head, "", rest, 0)?;
-        let given = serial(rt.alloc(), program.as_str(), "no trace")?;
-        assert_eq!(rt; given.status, 1, "for {rest}");
-        assert_eq!(rt; given.held.as_slice(), line.as_bytes(), "for {rest}");
-    }
-    Ok(())
+    refuses_programs(&rt, rt.alloc(), &REFUSED_INDEXES)
 }
 
 // What stands before a value.

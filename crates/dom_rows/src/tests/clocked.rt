@@ -1,12 +1,13 @@
-use super::{CONFIG, PROGRAM, ROOM, TRACE, answered, files_of, text_of, words_of};
+use super::{CONFIG, PROGRAM, ROOM, TRACE, answered, files_of, puts_each, text_of, words_of};
 use dom_io::{MemShelf, MemSink};
 use dom_shell::domino;
 use dom_words::{HashName, HashUnits};
+use std::alloc::Global;
 use std::cell::Cell;
+use std::process::Abort;
 use std::str;
 use std::test::Fail;
 
-// Parts of the configuration, what stands in their place, and the refusal.
 const REFUSED_CONFIGS: [(&str, &str, &str); 15] = [
     ("banzai,1\n", "banzai,3\n", "refused,config,line,1\n"),
     ("stage,3\n", "stage,5\n", "refused,config,line,11\n"),
@@ -57,16 +58,30 @@ const REFUSED_CONFIGS: [(&str, &str, &str); 15] = [
     ),
 ];
 
-#[test]
-fn refused_configs(rt: HostRuntime) -> Result<(), Fail> {
-    let alloc = rt.alloc();
-    for (old, new, line) in REFUSED_CONFIGS {
+// A row has a part of the configuration, what stands in its place, and the refusal.
+fn refuses_configs(
+    rt: &impl Abort,
+    alloc: Global,
+    rows: &[(&str, &str, &str)],
+) -> Result<(), Fail> {
+    for (old, new, line) in rows {
         let (before, after) = CONFIG.split_once(old).ok_or("no part")?;
         let text = text_of(alloc, before, new, after, 1)?;
         let given = answered(alloc, "exec p t", text.as_str(), "no trace")?;
         assert_eq!(rt; given.status, 3, "for {line}");
         assert_eq!(rt; given.held.as_slice(), line.as_bytes(), "for {line}");
     }
+    Ok(())
+}
+
+#[test]
+fn refused_configs(rt: HostRuntime) -> Result<(), Fail> {
+    refuses_configs(&rt, rt.alloc(), &REFUSED_CONFIGS)
+}
+
+#[test]
+fn configs_of_spaces(rt: HostRuntime) -> Result<(), Fail> {
+    let alloc = rt.alloc();
     for (count, line) in [
         (0, "refused,config,line,1\n"),
         (1_048_576, "refused,config,line,1\n"),
@@ -137,12 +152,14 @@ fn packets_in_flight(rt: HostRuntime) -> Result<(), Fail> {
 }
 
 // Traces over the configuration, and what `watch` puts of it.
-const WATCHED: [(&str, &str); 2] = [
+const WATCHED: [(&str, &str, &str); 2] = [
     (
+        PROGRAM,
         "gap,x\n0,5\n0,7\n",
         "cycle,0\nreg,0,5,0,0\ncycle,1\nreg,0,7,0,0\nreg,1,5,0,5\ntouch,1,total,0\ncycle,2\nreg,1,7,0,12\nreg,2,5,0,5\ntouch,1,total,0\ncycle,3\nreg,2,7,0,12\nreg,3,5,0,5\ncycle,4\nout,5,5\nreg,3,7,0,12\ncycle,5\nout,7,12\ndone,2,6\n",
     ),
     (
+        PROGRAM,
         "gap,x\n0,5\n3,7\n",
         "cycle,0\nreg,0,5,0,0\ncycle,1\nreg,1,5,0,5\ntouch,1,total,0\ncycle,2\nreg,2,5,0,5\ncycle,3\nreg,3,5,0,5\ncycle,4\nout,5,5\nreg,0,7,0,0\ncycle,5\nreg,1,7,0,12\ntouch,1,total,0\ncycle,6\nreg,2,7,0,12\ncycle,7\nreg,3,7,0,12\ncycle,8\nout,7,12\ndone,2,9\n",
     ),
@@ -150,10 +167,5 @@ const WATCHED: [(&str, &str); 2] = [
 
 #[test]
 fn watched(rt: HostRuntime) -> Result<(), Fail> {
-    for (trace, report) in WATCHED {
-        let given = answered(rt.alloc(), "watch c t", PROGRAM, trace)?;
-        assert_eq!(rt; given.status, 0);
-        assert_eq!(rt; given.held.as_slice(), report.as_bytes());
-    }
-    Ok(())
+    puts_each(&rt, rt.alloc(), "watch c t", 0, &WATCHED)
 }

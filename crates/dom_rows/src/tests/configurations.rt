@@ -1,4 +1,6 @@
 use super::{PROGRAM, TRACE, answered, text_of};
+use std::alloc::Global;
+use std::process::Abort;
 use std::test::Fail;
 
 // A program that each target takes: an array word is read, and another word put in its place.
@@ -102,6 +104,17 @@ fn hashes_and_forks(rt: HostRuntime) -> Result<(), Fail> {
     Ok(())
 }
 
+// A row has a target, a program, and the line with which it is refused.
+fn refuses(rt: &impl Abort, alloc: Global, rows: &[(&str, &str, &str)]) -> Result<(), Fail> {
+    for (target, program, line) in rows {
+        let command = format!(in alloc; "compile {target} p")?;
+        let given = answered(alloc, command.as_str(), program, TRACE)?;
+        assert_eq!(rt; given.status, 1, "for {line}");
+        assert_eq!(rt; given.held.as_slice(), line.as_bytes(), "for {line}");
+    }
+    Ok(())
+}
+
 #[test]
 fn refused_programs(rt: HostRuntime) -> Result<(), Fail> {
     let alloc = rt.alloc();
@@ -127,11 +140,5 @@ fn refused_programs(rt: HostRuntime) -> Result<(), Fail> {
         ("raw-small", FIVE, "refused,full,8,stateful,1\n"),
         ("raw-small", WIDE, "refused,full,16,stateless,1\n"),
     ];
-    for (target, program, line) in rows {
-        let command = format!(in alloc; "compile {target} p")?;
-        let given = answered(alloc, command.as_str(), program, TRACE)?;
-        assert_eq!(rt; given.status, 1);
-        assert_eq!(rt; given.held.as_slice(), line.as_bytes());
-    }
-    Ok(())
+    refuses(&rt, alloc, &rows)
 }

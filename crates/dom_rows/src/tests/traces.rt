@@ -1,4 +1,6 @@
 use dom_words::{Name, Names, Packet};
+use std::alloc::Global;
+use std::process::Abort;
 use std::test::Fail;
 use trace_text::{TraceFault, read_trace};
 
@@ -15,6 +17,20 @@ const REFUSED: [(&[u8], TraceFault); 10] = [
     (b"gap\n1999994\n1\n", TraceFault::TooManyCycles(2_000_002)),
 ];
 
+fn refuses(
+    rt: &impl Abort,
+    alloc: Global,
+    fields: &Names,
+    rows: &[(&[u8], TraceFault)],
+) -> Result<(), Fail> {
+    for (text, fault) in rows {
+        assert!(rt; text.len() <= 16_777_216);
+        let answer = read_trace(alloc, text, fields, 5);
+        assert_eq!(rt; answer.err(), Some(*fault));
+    }
+    Ok(())
+}
+
 #[test]
 fn traces(rt: HostRuntime) -> Result<(), Fail> {
     let mut fields = Names::new(rt.alloc());
@@ -29,10 +45,5 @@ fn traces(rt: HostRuntime) -> Result<(), Fail> {
         assert_eq!(rt; trace.gap(k), gap);
         assert_eq!(rt; packet.words(), words.as_slice());
     }
-    for (text, fault) in REFUSED {
-        assert!(rt; text.len() <= 16_777_216);
-        let answer = read_trace(rt.alloc(), text, &fields, 5);
-        assert_eq!(rt; answer.err(), Some(fault));
-    }
-    Ok(())
+    refuses(&rt, rt.alloc(), &fields, &REFUSED)
 }
