@@ -3,9 +3,9 @@
 # 64 chains, which compile; one class of statements, which is outside; and for 512 statements one chain, which is too deep;
 # then a chain of `else if` with 3,850 assignments, which has too many statements. It reports and judges nothing: it
 # always ends with status 0.
-# bench/timing.sh says what it wants and which variables it heeds.
+# bench/common.sh says what it wants and which variables it heeds.
 set -u
-. "$(dirname "${BASH_SOURCE[0]}")/timing.sh"
+. "$(dirname "${BASH_SOURCE[0]}")/common.sh" 9
 
 loose_program() { # so many statements in 64 chains
     printf 'struct P {'

@@ -3,9 +3,9 @@
 # the rules and taking the machine's memory is what counts: legal ones for `pairs-large` of 32 stages with 256, 512, 1,024
 # and 2,048 containers (the most that there may be), and texts of 131,072 to 1,048,576 bytes that are of the form and have
 # more atoms than a stage may have. It reports and judges nothing: it always ends with status 0.
-# bench/timing.sh says what it wants and which variables it heeds.
+# bench/common.sh says what it wants and which variables it heeds.
 set -u
-. "$(dirname "${BASH_SOURCE[0]}")/timing.sh"
+. "$(dirname "${BASH_SOURCE[0]}")/common.sh" 9
 
 printf 'gap\n' >empty.csv
 

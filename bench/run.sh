@@ -4,27 +4,12 @@
 # write(2). The programs: the running sum, flowlet switching, conga, a configuration of 240 atoms in 8 stages, and one of
 # 248 atoms in 30 stages. Then idle cycles, and the growth with the number of atoms. It reports and judges nothing: it
 # always ends with status 0.
-# Wants gcc and the built program (./domino builds it). Traces, programs and outputs go to bench/data, which git does not
-# see. DOMINO_PROGRAM names another built program, RUNS another number of runs than 5, of which the best counts, OUTPUTS
-# other outputs than `file /dev/null`, SIZES other sizes than `1 4 16`, ROWS other programs. `median` is that of the ratios
-# of the runs next to one another, which a busy machine changes less than it does the best times.
-# With COUNT=1 it counts instructions instead, which a busy machine does not change: of `valgrind --tool=callgrind`, on
-# the first 10,000 packets of each trace, less those on the first 1,000; without the kernel's share.
+# bench/common.sh says what it wants and which variables it heeds; OUTPUTS names other outputs than `file /dev/null`, SIZES
+# other sizes than `1 4 16`, ROWS other programs. `median` is that of the ratios of the runs next to one another, which a busy
+# machine changes less than it does the best times. With COUNT=1 it counts instructions: on the first 10,000 packets of each
+# trace, less those on the first 1,000; without the kernel's share.
 set -u
-
-top="$(cd "$(dirname "${BASH_SOURCE[0]}")/.." && pwd)" || exit 0
-program="${DOMINO_PROGRAM:-$top/crates/domino/out/domino}"
-data="$top/bench/data"
-runs="${RUNS:-5}"
-
-if [ ! -x "$program" ]; then
-    echo "bench: $program is not built: run ./domino first"
-    exit 0
-fi
-mkdir -p "$data" && cd "$data" || exit 0
-for source in measure interpreter acc flowlet_run conga; do
-    gcc -O2 -o "$source" "$top/bench/$source.c" || { echo "bench: gcc is wanted"; exit 0; }
-done
+. "$(dirname "${BASH_SOURCE[0]}")/common.sh" 5 interpreter acc flowlet_run conga
 
 # A program whose configuration has so many atoms, all but one without state, in few stages: a tree of operators over as
 # many leaves as are wanted.
@@ -62,33 +47,6 @@ deep_program() {
                 print "  pkt." name " = pkt." name " " operator[(link + k) % 4 + 1] " " 2 * link + k + 3 ";"
         }
         print "}"
-    }'
-}
-
-# trace HEADING BYTES: records until the bytes or 1,990,000 packets are reached, without gaps.
-trace() {
-    awk -v heading="$1" -v bytes="$2" 'BEGIN {
-        print heading
-        columns = split(heading, names, ",")
-        number = 12345
-        left = bytes - length(heading) - 1
-        for (packet = 0; packet < 1990000; packet++) {
-            line = "0"
-            for (c = 2; c <= columns; c++) {
-                number = number * 16807 % 2147483647
-                value = number
-                if (names[c] == "sport" || names[c] == "dport") value = number % 97
-                if (names[c] == "arrival") value = packet * 2
-                if (names[c] == "dst") value = number % 2
-                if (names[c] == "util") value = number % 128
-                if (names[c] == "path") value = number % 8
-                if (names[c] == "a" || names[c] == "x" && columns == 2) value = number % 9000000 - 900000
-                line = line "," value
-            }
-            left -= length(line) + 1
-            if (left < 0) break
-            print line
-        }
     }'
 }
 

@@ -3,24 +3,9 @@
 # write(2): the running sum (bench/running_sum.c), flowlet switching (bench/flowlet.c), and a program of thirty nested
 # conditionals (bench/nested.c). Then the fronts alone: `serial` of the longest programs over an empty trace. It reports
 # and judges nothing: it always ends with status 0.
-# Wants gcc and the built program (./domino builds it). Traces, programs and outputs go to bench/data, which git does not
-# see. DOMINO_PROGRAM names another built program, RUNS another number of runs than 3; of these the best counts.
+# bench/common.sh says what it wants and which variables it heeds.
 set -u
-
-top="$(cd "$(dirname "${BASH_SOURCE[0]}")/.." && pwd)" || exit 0
-program="${DOMINO_PROGRAM:-$top/crates/domino/out/domino}"
-data="$top/bench/data"
-runs="${RUNS:-3}"
-
-if [ ! -x "$program" ]; then
-    echo "bench: $program is not built: run ./domino first"
-    exit 0
-fi
-mkdir -p "$data" && cd "$data" || exit 0
-for source in running_sum flowlet nested; do
-    gcc -O2 -o "$source" "$top/bench/$source.c" || { echo "bench: gcc is wanted"; exit 0; }
-done
-gcc -O2 -o measure "$top/bench/measure.c" || exit 0
+. "$(dirname "${BASH_SOURCE[0]}")/common.sh" 3 running_sum flowlet nested
 
 # The program of nested.c: thirty conditionals inside one another, each on one bit.
 nested_program() {
@@ -32,30 +17,6 @@ nested_program() {
     done
     for ((k = 0; k < 30; k++)); do printf '}'; done
     printf '\n}\n'
-}
-
-# trace HEADING BYTES LIMIT: records until the bytes or so many packets are reached.
-trace() {
-    awk -v heading="$1" -v bytes="$2" -v most="$3" 'BEGIN {
-        print heading
-        columns = split(heading, names, ",")
-        number = 12345
-        left = bytes - length(heading) - 1
-        for (packet = 0; packet < most; packet++) {
-            line = "0"
-            for (c = 2; c <= columns; c++) {
-                number = number * 16807 % 2147483647
-                value = number
-                if (names[c] == "sport" || names[c] == "dport") value = number % 97
-                if (names[c] == "arrival") value = packet * 2
-                if (names[c] == "x" && number % 3 == 0) value = number % 1024 * 1048576
-                line = line "," value
-            }
-            left -= length(line) + 1
-            if (left < 0) break
-            print line
-        }
-    }'
 }
 
 best() { # best OUTPUT WORD..: the least processor time, and the greatest peak, of the runs
@@ -70,7 +31,7 @@ nested_program >nested.dom
 for row in "running_sum $top/examples/acc.dom gap,x" "flowlet $top/examples/flowlet.dom gap,sport,dport,arrival" "nested nested.dom gap,x"; do
     set -- $row
     for mib in 4 16; do
-        [ -s "$1-$mib.csv" ] || trace "$3" $((mib * 1024 * 1024)) 1999990 >"$1-$mib.csv"
+        [ -s "$1-$mib.csv" ] || RARE=1 trace "$3" $((mib * 1024 * 1024)) >"$1-$mib.csv"
         packets=$(($(wc -l <"$1-$mib.csv") - 1))
         ours="$(best ours.out "$program" serial "$2" "$1-$mib.csv")"
         theirs="$(best theirs.out "./$1" "$1-$mib.csv")"
