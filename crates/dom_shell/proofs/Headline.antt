@@ -1,10 +1,9 @@
 -- A run is the program run serially.
-use Rattle.std.proofs.Common.{◌≡◌, ℕ, zero, suc, ◌+◌, ◌-◌, Some, None, List, [], ◌∷◌, length, map, take, ap, ◌∙◌, subst}
+use Rattle.std.proofs.Common.{◌≡◌, ℕ, zero, suc, ◌+◌, ◌-◌, Some, None, List, [], ◌∷◌, length, take, ◌∙◌, subst}
 use Rattle.std.specs.List.{AllByRecursion as Every}
 use Rattle.dom_words.specs.State.{Hash, IsSmallHash, array_of}
-use Rattle.trace_text.specs.Trace.{entries}
 use Rattle.dom_ast.specs.Resolved.{CheckedForm}
-use Rattle.banzai_config.specs.Action.{Arrays, Entry, alone}
+use Rattle.banzai_config.specs.Action.{Arrays, Entry}
 use Rattle.banzai_config.specs.Legal.{Shape}
 use Rattle.banzai_config.specs.Named.{stage_arrays}
 use Rattle.banzai_config.specs.Parts.{PartsForm}
@@ -16,21 +15,18 @@ use Rattle.dom_compile.specs.Answer.{IsCompileAnswer}
 use Rattle.dom_compile.specs.Programs.{IsWellFormed}
 use Rattle.dom_compile.specs.Runs.{AreFull}
 use Rattle.dom_compile.proofs.Runs.{runs_as}
-use Rattle.dom_finding.specs.Finding.{Packets}
-use Rattle.dom_report.proofs.Packets.{packets_of-entries}
 use Rattle.dom_shell.specs.RunIsSerial.{IsSerialMoment, IsSerialRun, passed}
 use Rattle.std.specs.Prelude.{Ok}
 
 pub run_is_serial : (s : Shape) (text : List ℕ) (program : CheckedForm) (parts : PartsForm) → IsWellFormed text program → IsCompileAnswer s text (Ok parts)
-    → (hash : Hash) (packets : Packets) → IsSmallHash hash → AreFull program (map (λ p. p.1) packets) → IsSerialRun hash program parts packets
-run_is_serial s text program parts well answer hash packets small full =
-    let pipe = pipe_alone hash parts (legal_arrays s parts answer.2.legal) (entries packets) in
-    let serial = runs_as s text program parts well answer hash (map (λ p. p.1) packets) small full in
-    let same = packets_of-entries packets in
+    → (hash : Hash) (entries : List Entry) → IsSmallHash hash → AreFull program (packets_of entries) → IsSerialRun hash program parts entries
+run_is_serial s text program parts well answer hash entries small full =
+    let pipe = pipe_alone hash parts (legal_arrays s parts answer.2.legal) entries in
+    let serial = runs_as s text program parts well answer hash (packets_of entries) small full in
     record {
       cycles = pipe.cycles;
-      packets_are = pipe.packets ∙ ap (λ l. (alone hash parts l).packets) same ∙ serial.packets_are;
-      arrays_are = pipe.arrays ∙ ap (λ l. (alone hash parts l).arrays) same ∙ serial.arrays_are;
+      packets_are = pipe.packets ∙ serial.packets_are;
+      arrays_are = pipe.arrays ∙ serial.arrays_are;
     }
 
 -- what holds of each packet holds of each of the first ones

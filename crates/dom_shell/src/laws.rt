@@ -1,6 +1,6 @@
 //! What holds of every call.
 
-ghost use Rattle.std.specs.Prelude.{◌≡◌, ◌≢◌, ◌<◌, ℕ, List, Ok, Option, length, map};
+ghost use Rattle.std.specs.Prelude.{◌≡◌, ◌<◌, ℕ, List, Ok, Option, length, map};
 ghost use Rattle.banzai_config.specs.Action.{Entry};
 ghost use Rattle.banzai_config.specs.Legal.{Shape};
 ghost use Rattle.banzai_config.specs.Parts.{PartsForm};
@@ -14,40 +14,33 @@ ghost use Rattle.dom_compile.specs.Programs.{IsWellFormed};
 ghost use Rattle.dom_compile.specs.Runs.{AreFull};
 ghost use Rattle.dom_finding.specs.Configs.{IsConfig, config_form};
 ghost use Rattle.dom_finding.specs.Finding.{Packets, most_config};
+ghost use Rattle.dom_io.specs.Causes.{Rose};
 ghost use Rattle.dom_words.specs.State.{Hash, IsSmallHash};
-ghost use Rattle.dom_shell.specs.Call.{IsResult};
+ghost use Rattle.trace_text.specs.Trace.{entries};
+ghost use Rattle.dom_shell.specs.Call.{IsResult, IsUnread};
 ghost use Rattle.dom_shell.specs.ExecIsRun.{HoldsCompiled, exec_words, run_words};
 ghost use Rattle.dom_shell.specs.RunIsSerial.{IsSerialMoment, IsSerialRun};
-
-use crate::call::domino;
-use dom_io::{CleanShelf, CleanSink};
-use dom_words::HashUnits;
-use std::alloc::Global;
 
 /// Words and told files have one status and one text.
 pub fn one_result()
     ensures { (hash : Hash) (files : List ℕ → Option (List ℕ)) (words : List (List ℕ)) (status other : ℕ) (bytes others : List ℕ) → IsResult hash words files status bytes → IsResult hash words files other others → (status ≡ other) × (bytes ≡ others) }
 {}
 
-/// A call over files and a sink in memory for which no faults are planned has no fault of reading and none of writing.
-pub fn call_without_faults<H: HashUnits>(
-    alloc: Global,
-    words: &[String],
-    shelf: &mut CleanShelf,
-    sink: &mut CleanSink,
-    hash: &H,
-) -> u8
-    ensures reads { result ≢ 4 }
-    ensures writes { result ≢ 5 }
-{
-    domino(alloc, words, shelf, sink, hash)
-}
+/// Where a shelf's counts of faults are 0 before and after, no file was unread (`reads`); where a sink's count is, it did not
+/// rise (`writes`). So a call over a `CleanShelf` and a `CleanSink`, whose counts are 0 at all times, answers neither 4 nor 5
+/// (`read_fault` and `write_fault` of `domino`).
+pub fn call_without_faults()
+    ensures reads { (words : List (List ℕ)) (files : List ℕ → Option (List ℕ)) → IsUnread words files (λ name. 0) (λ name. 0) → ⊥ }
+    ensures writes { Rose 0 0 → ⊥ }
+{}
 
-/// What `run` puts is the program run serially: for every program that has a configuration for a target, clocked over the
-/// packets of a trace and the drain, each packet leaves as many cycles after it entered as there are stages, as the program
-/// makes it when it runs on one packet after another, and so do the words that stay in the arrays.
+/// What `run` puts is the program run serially: for every program that has a configuration for a target, clocked over any list
+/// of packets and idle cycles and the drain, each packet leaves as many cycles after it entered as there are stages, as the
+/// program makes it when it runs on one packet after another, and so do the words that stay in the arrays (`run`). The packets
+/// among the entries of a trace are the trace's packets (`trace`).
 pub fn run_is_serial()
-    ensures { (s : Shape) (text : List ℕ) (program : CheckedForm) (parts : PartsForm) → IsWellFormed text program → IsCompileAnswer s text (Ok parts) → (hash : Hash) (packets : Packets) → IsSmallHash hash → AreFull program (map (λ p. p.1) packets) → IsSerialRun hash program parts packets }
+    ensures run { (s : Shape) (text : List ℕ) (program : CheckedForm) (parts : PartsForm) → IsWellFormed text program → IsCompileAnswer s text (Ok parts) → (hash : Hash) (cycles : List Entry) → IsSmallHash hash → AreFull program (packets_of cycles) → IsSerialRun hash program parts cycles }
+    ensures trace { (packets : Packets) → packets_of (entries packets) ≡ map (λ p. p.1) packets }
 {}
 
 /// And so at every moment, drained or not: the arrays of each stage are those that the program leaves when it runs on the
