@@ -233,9 +233,10 @@ fn refused_words(rt: HostRuntime) -> Result<(), Fail> {
     refuses_words(&rt, rt.alloc(), &REFUSED_WORDS)
 }
 
-const CUT_REPORTS: [(&str, &str); 4] = [
+const CUT_REPORTS: [(&str, &str); 5] = [
     ("run raw-small p t", "cycle,x,sum\n4,5,5\n7,"),
     ("exec c t", "cycle,x,sum\n4,5,5\n7,"),
+    ("watch c t", "cycle,0\nreg,0,5,0,0\ncy"),
     ("serial p t", "packet,x,sum\n1,5,5\n2,"),
     ("compile raw-small p", "banzai,1\ntarget,raw-small\nfi"),
 ];
@@ -252,7 +253,7 @@ fn third_put_fails(rt: HostRuntime) -> Result<(), Fail> {
     Ok(())
 }
 
-const READS: [(&str, &str, &str, u64, u8); 12] = [
+const READS: [(&str, &str, &str, u64, u8); 15] = [
     ("run raw-small p t", PROGRAM, TRACE, 2, 0),
     ("serial p t", PROGRAM, TRACE, 2, 0),
     ("run raw-small p t", PROGRAM, "no trace", 2, 3),
@@ -265,6 +266,9 @@ const READS: [(&str, &str, &str, u64, u8); 12] = [
     ("exec c t", PROGRAM, TRACE, 2, 0),
     ("exec c t", PROGRAM, "no trace", 2, 3),
     ("exec p t", PROGRAM, TRACE, 1, 3),
+    ("watch c t", PROGRAM, TRACE, 2, 0),
+    ("watch c t", PROGRAM, "no trace", 2, 3),
+    ("watch p t", PROGRAM, TRACE, 1, 3),
 ];
 
 // A row has the number of reads that can succeed: none after them can.
@@ -302,6 +306,8 @@ fn failed_reads(rt: HostRuntime) -> Result<(), Fail> {
         ("compile raw-small p", 1),
         ("exec c t", 1),
         ("exec c t", 2),
+        ("watch c t", 1),
+        ("watch c t", 2),
     ];
     for (command, number) in rows {
         let files = files_of(rt.alloc(), PROGRAM, TRACE)?;
@@ -313,7 +319,7 @@ fn failed_reads(rt: HostRuntime) -> Result<(), Fail> {
     Ok(())
 }
 
-const WHOLE_REPORTS: [(&str, &str); 4] = [
+const WHOLE_REPORTS: [(&str, &str); 5] = [
     (
         "run raw-small p t",
         "cycle,x,sum\n4,5,5\n7,7,12\nstate,total,0,12\nplace,total,1\ndone,2,8\n",
@@ -325,6 +331,10 @@ const WHOLE_REPORTS: [(&str, &str); 4] = [
     (
         "serial p t",
         "packet,x,sum\n1,5,5\n2,7,12\nstate,total,0,12\ndone,2\n",
+    ),
+    (
+        "watch c t",
+        "cycle,0\nreg,0,5,0,0\ncycle,1\nreg,1,5,0,5\ntouch,1,total,0\ncycle,2\nreg,2,5,0,5\ncycle,3\nreg,0,7,0,0\nreg,3,5,0,5\ncycle,4\nout,5,5\nreg,1,7,0,12\ntouch,1,total,0\ncycle,5\nreg,2,7,0,12\ncycle,6\nreg,3,7,0,12\ncycle,7\nout,7,12\ndone,2,8\n",
     ),
     ("compile raw-small p", CONFIG),
 ];
