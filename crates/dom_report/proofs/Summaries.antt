@@ -16,29 +16,30 @@ use Rattle.dom_report.specs.declared.selfrun.Summary.{Summary}
 use Rattle.dom_report.specs.Clocking.{Cycle, after_cycle, after_cycles, after_entries, cycles_from}
 use Rattle.dom_report.specs.Folding.{fold_left}
 use Rattle.dom_report.specs.SelfRun.{drawn, fold_of, folded, next_draw, packet_drawn, summary_over, total_of}
+use Rattle.dom_report.proofs.Draws.{fields_length}
 use Rattle.dom_report.proofs.DrivenLines.{config_after, left_is_emitted, left_over, stands_after}
 
 -- The packets.
 
--- each has three fields
-pub drawn_each : (word count n : ℕ) → n ≡ 3 → (k : ℕ) (d : ℕ × List ℕ) → k < length (drawn word count) → length (get_or (drawn word count) k d).1 ≡ n
-drawn_each word zero n three k d inside = absurd (omega (arith, inside))
-drawn_each word (suc count) n three zero d inside = sym three
-drawn_each word (suc count) n three (suc k) d inside = drawn_each (next_draw (next_draw (next_draw word))) count n three k d (omega arith)
+-- each has so many fields
+pub drawn_each : (width word count : ℕ) (k : ℕ) (d : ℕ × List ℕ) → k < length (drawn width word count) → length (get_or (drawn width word count) k d).1 ≡ width
+drawn_each width word zero k d inside = absurd (omega (arith, inside))
+drawn_each width word (suc count) zero d inside = fields_length width _ _
+drawn_each width word (suc count) (suc k) d inside = drawn_each width (next_draw (next_draw (next_draw word))) count k d (omega arith)
 
 -- there are so many
-pub drawn_count : (word count : ℕ) → length (drawn word count) ≡ count
-drawn_count word zero = refl
-drawn_count word (suc count) = ap suc (drawn_count (next_draw (next_draw (next_draw word))) count)
+pub drawn_count : (width word count : ℕ) → length (drawn width word count) ≡ count
+drawn_count width word zero = refl
+drawn_count width word (suc count) = ap suc (drawn_count width (next_draw (next_draw (next_draw word))) count)
 
 -- each takes four cycles at most
-pub drawn_cycles : (word count : ℕ) → cycles_of (drawn word count) ≤ 4 * count
-drawn_cycles word zero = omega arith
-drawn_cycles word (suc count) =
-    let rest : List (ℕ × List ℕ) = drawn (next_draw (next_draw (next_draw word))) count in
-    let gap : (packet_drawn word).0 ≤ 3 = omega arith in
-    let more = sum_by-cons (λ (p : ℕ × List ℕ). p.0) (packet_drawn word) rest in
-    let upto : cycles_of rest ≤ 4 * count = drawn_cycles (next_draw (next_draw (next_draw word))) count in
+pub drawn_cycles : (width word count : ℕ) → cycles_of (drawn width word count) ≤ 4 * count
+drawn_cycles width word zero = omega arith
+drawn_cycles width word (suc count) =
+    let rest : List (ℕ × List ℕ) = drawn width (next_draw (next_draw (next_draw word))) count in
+    let gap : (packet_drawn width word).0 ≤ 3 = omega arith in
+    let more = sum_by-cons (λ (p : ℕ × List ℕ). p.0) (packet_drawn width word) rest in
+    let upto : cycles_of rest ≤ 4 * count = drawn_cycles width (next_draw (next_draw (next_draw word))) count in
     omega (arith, more, upto, gap)
 
 -- The fold.
@@ -92,21 +93,21 @@ sum_all words k total all total_is = total_is ∙ ap (λ l. sum l % 2 ^ 32) (ap 
 
 module _ (hash : Hash) (m m' : MachineForm) (seed count cycles : ℕ) (folding : Folding) (total : ℕ) where
   abbrev all : List Entry
-  all = entries (drawn seed count) ++ drain m.config
+  all = entries (drawn (length m.config.fields) seed count) ++ drain m.config
 
   pub summary_is : Stands hash [] m → m' ≡ after_entries hash m all → folding ≡ after_cycles no_bytes folded_on (record { word = 0 }) (cycles_from hash m 0 all)
       → cycles ≡ length all → total ≡ total_of m'.row.state
-      → ◌≡◌ {A = Summary} (record { packets = count; cycles = cycles; fold = folding.word; total = total }) (summary_over hash m.config (drawn seed count))
+      → ◌≡◌ {A = Summary} (record { packets = count; cycles = cycles; fold = folding.word; total = total }) (summary_over hash m.config (drawn (length m.config.fields) seed count))
   summary_is start machine_is folding_is cycles_are total_is =
       let config_is : m'.config ≡ m.config = ap (λ (k : MachineForm). k.config) machine_is ∙ config_after hash m all in
       let stands : m'.row ≡ pipe hash m'.config all = stands_after hash m start m' all machine_is in
       let state_is : m'.row.state ≡ (pipe hash m.config all).state = ap (λ (r : Row Arrays Entry). r.state) stands ∙ ap (λ (p : PartsForm). (pipe hash p all).state) config_is in
       let fold_is : folding.word ≡ fold_of (packets_of (emitted hash m.config all)) =
       ap (λ (f : Folding). f.word) folding_is ∙ fold_over hash (record { word = 0 }) m 0 all ∙ ap (λ l. fold folded 0 (words_of l)) (left_is_emitted hash m start all) in
-      ap (λ n. made n cycles folding.word total) (sym (drawn_count seed count))
-      ∙ ap (λ n. made (length (drawn seed count)) n folding.word total) cycles_are
-      ∙ ap (λ n. made (length (drawn seed count)) (length all) n total) fold_is
-      ∙ ap (λ n. made (length (drawn seed count)) (length all) (fold_of (packets_of (emitted hash m.config all))) n) (total_is ∙ ap total_of state_is)
+      ap (λ n. made n cycles folding.word total) (sym (drawn_count (length m.config.fields) seed count))
+      ∙ ap (λ n. made (length (drawn (length m.config.fields) seed count)) n folding.word total) cycles_are
+      ∙ ap (λ n. made (length (drawn (length m.config.fields) seed count)) (length all) n total) fold_is
+      ∙ ap (λ n. made (length (drawn (length m.config.fields) seed count)) (length all) (fold_of (packets_of (emitted hash m.config all))) n) (total_is ∙ ap total_of state_is)
     where
       made : ℕ → ℕ → ℕ → ℕ → Summary
       made packets cycles fold total = record { packets = packets; cycles = cycles; fold = fold; total = total }

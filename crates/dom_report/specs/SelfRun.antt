@@ -1,5 +1,5 @@
 -- A run that makes its own packets, by a generator of words, and what is told of its end.
-use Rattle.std.specs.Prelude.{ℕ, zero, suc, ◌+◌, ◌*◌, ◌/◌, ◌%◌, ◌^◌, List, [], ◌∷◌, ◌++◌, codes, fold, length, sum, sum_by}
+use Rattle.std.specs.Prelude.{ℕ, zero, suc, ◌+◌, ◌*◌, ◌/◌, ◌%◌, ◌^◌, List, [], ◌∷◌, ◌++◌, codes, fold, length, replicate, sum, sum_by, take}
 use Rattle.std.specs.List.{flat_map}
 use Rattle.dom_words.specs.State.{Hash}
 use Rattle.trace_text.specs.Lines.{count_text, joined, line_of, word_text}
@@ -16,19 +16,23 @@ use Rattle.dom_report.specs.declared.selfrun.Summary.{Summary}
 abbrev pub next_draw : ℕ → ℕ
 next_draw word = (1664525 * word + 1013904223) % 2 ^ 32
 
+-- so many fields of a packet with this key and this value: these two, and behind them zeros
+abbrev pub fields_drawn : ℕ → ℕ → ℕ → List ℕ
+fields_drawn fields key val = take fields (key ∷ val ∷ replicate fields 0)
+
 -- a packet of three draws: the two highest bits of the first are the idle cycles before it, the six highest of the second are
--- its key, and the sixteen highest of the third are its value; its third field enters as 0
-abbrev pub packet_drawn : ℕ → ℕ × List ℕ
-packet_drawn word =
+-- its key, and the sixteen highest of the third are its value
+abbrev pub packet_drawn : ℕ → ℕ → ℕ × List ℕ
+packet_drawn fields word =
     let gap = next_draw word in
     let key = next_draw gap in
     let val = next_draw key in
-    (gap / 2 ^ 30, (key / 2 ^ 26) ∷ (val / 2 ^ 16) ∷ 0 ∷ [])
+    (gap / 2 ^ 30, fields_drawn fields (key / 2 ^ 26) (val / 2 ^ 16))
 
--- so many packets, one after another
-abbrev pub drawn : ℕ → ℕ → List (ℕ × List ℕ)
-drawn word zero = []
-drawn word (suc count) = packet_drawn word ∷ drawn (next_draw (next_draw (next_draw word))) count
+-- so many packets, one after another, each of which has so many fields
+abbrev pub drawn : ℕ → ℕ → ℕ → List (ℕ × List ℕ)
+drawn fields word zero = []
+drawn fields word (suc count) = packet_drawn fields word ∷ drawn fields (next_draw (next_draw (next_draw word))) count
 
 -- a fold, which starts with 0, with one word more
 abbrev pub folded : ℕ → ℕ → ℕ
@@ -64,4 +68,4 @@ summary_lines target seed count summary =
 
 -- the report of a configuration that is clocked over the packets drawn from a seed
 abbrev pub selfrun_report : Hash → Target → ℕ → ℕ → PartsForm → List ℕ
-selfrun_report hash target seed count p = joined (summary_lines target seed count (summary_over hash p (drawn seed count)))
+selfrun_report hash target seed count p = joined (summary_lines target seed count (summary_over hash p (drawn (length p.fields) seed count)))

@@ -1,7 +1,7 @@
 ghost use Rattle.std.specs.Prelude.{◌≡◌, ◌+◌, ◌*◌, ◌/◌, ◌%◌, ◌^◌, [], ◌∷◌, None, Some, length};
 ghost use Rattle.dom_report.specs.Clocking.{Cycle, IsNext};
 ghost use Rattle.dom_report.specs.Folding.{fold_left};
-ghost use Rattle.dom_report.specs.SelfRun.{drawn, folded, next_draw};
+ghost use Rattle.dom_report.specs.SelfRun.{drawn, fields_drawn, folded, next_draw};
 
 use crate::clocked::Clocked;
 use crate::each_cycle::EachCycle;
@@ -9,11 +9,12 @@ use crate::entering::Packets;
 use dom_io::{Sink, SinkFault};
 use dom_words::Packet;
 
-/// Packets that are drawn: the last draw, or the seed, and how many packets are still to come.
+/// Packets that are drawn: the last draw, or the seed, how many packets are still to come, and how many fields each has.
 #[derive(Drop)]
 pub(crate) struct Draws {
     pub(crate) word: u32,
     pub(crate) left: u32,
+    pub(crate) width: usize,
 }
 
 impl Draws {
@@ -22,6 +23,7 @@ impl Draws {
         ensures word { result ≡ next_draw self.old.word }
         ensures new { self.new.word ≡ result }
         ensures left { self.new.left ≡ self.old.left }
+        ensures width { self.new.width ≡ self.old.width }
     {
         self.word = self.word.wrapping_mul(1664525).wrapping_add(1013904223);
         self.word
@@ -29,7 +31,7 @@ impl Draws {
 }
 
 impl Packets for Draws {
-    ghost rest = { λ draws. drawn draws.word draws.left };
+    ghost rest = { λ draws. drawn draws.width draws.word draws.left };
 
     fn next_packet(&mut self, packet: &mut Packet) -> Option<u64> {
         if self.left == 0 {
@@ -46,12 +48,15 @@ impl Packets for Draws {
 
 // Writes the fields of a packet with this key and this value.
 fn write_fields(key: u32, val: u32, words: &mut [u32])
-    requires { length words.old ≡ 3 }
-    ensures { words.new ≡ key ∷ val ∷ 0 ∷ [] }
+    ensures { words.new ≡ fields_drawn (length words.old) key val }
 {
-    words[0] = key;
-    words[1] = val;
-    words[2] = 0;
+    words.fill(0);
+    if !words.is_empty() {
+        words[0] = key;
+    }
+    if words.len() > 1 {
+        words[1] = val;
+    }
 }
 
 /// The fold over the words of what leaves. Nothing is put.
@@ -88,18 +93,4 @@ fn fold_word(fold: u32, word: u32) -> u32
     ensures { result ≡ folded fold word }
 {
     fold.wrapping_mul(31).wrapping_add(word)
-}
-
-/// The sink of those who put nothing.
-#[derive(Drop)]
-pub(crate) struct Unheard;
-
-impl Sink for Unheard {
-    ghost held = { λ _. None };
-
-    ghost faults = { λ _. 0 };
-
-    fn put(&mut self, _bytes: &[u8]) -> Result<(), SinkFault> {
-        Ok(())
-    }
 }

@@ -8,10 +8,11 @@ ghost use Rattle.trace_text.specs.Lines.{count_text, joined, line_of, word_text}
 ghost use Rattle.trace_text.specs.Trace.{entries};
 
 use crate::clocking::clock;
-use crate::drawing::{Draws, Folding, Unheard};
+use crate::drawing::{Draws, Folding};
 use atom_traits::AtomTemplate;
 use banzai_config::Target;
 use banzai_machine::Machine;
+use dom_io::CleanSink;
 use dom_words::{HashUnits, Memory, Packet, signed};
 use itoa::Buffer;
 use std::alloc::Global;
@@ -30,8 +31,7 @@ pub struct Summary {
 }
 
 /// Clocks a machine that stands at its beginning over so many packets, drawn from the seed, and over the drain, and answers
-/// what that comes to. Nothing is put. The configuration has three fields; `entering` and `leaving` have a word for each of
-/// them. Takes no memory.
+/// what that comes to. Nothing is put. `entering` and `leaving` have a word for each field. Takes no memory.
 pub fn run_drawn<
     T: AtomTemplate,
     const DEPTH: usize,
@@ -47,20 +47,20 @@ pub fn run_drawn<
     leaving: &mut Packet,
 ) -> Summary
     requires start { Stands (H.meaning hash.now) [] machine.old }
-    requires fields { length machine.old.config.fields ≡ 3 }
     requires stages { length machine.old.config.stages ≤ 65535 }
     requires entering { length entering.old ≡ length machine.old.config.fields }
     requires leaving { length leaving.old ≡ length machine.old.config.fields }
-    ensures stands { Stands (H.meaning hash.now) (entries (drawn seed count) ++ drain machine.old.config) machine.new }
-    ensures summary { result ≡ summary_over (H.meaning hash.now) machine.old.config (drawn seed count) }
+    ensures stands { Stands (H.meaning hash.now) (entries (drawn (length machine.old.config.fields) seed count) ++ drain machine.old.config) machine.new }
+    ensures summary { result ≡ summary_over (H.meaning hash.now) machine.old.config (drawn (length machine.old.config.fields) seed count) }
     ensures config { machine.new.config ≡ machine.old.config }
 {
     let mut packets = Draws {
         word: seed,
         left: count,
+        width: entering.words().len(),
     };
     let mut fold = Folding { word: 0 };
-    let mut sink = Unheard;
+    let mut sink = CleanSink::new();
     let Ok(cycles) = clock(
         machine,
         &mut packets,
