@@ -1,6 +1,7 @@
 pub mod Clocked
 pub mod Compiled
 pub mod CompiledTexts
+pub mod Drawn
 pub mod Ended
 pub mod ExecRuns
 pub mod Headline

@@ -8,14 +8,14 @@ use Rattle.dom_finding.specs.Stops.{AreKept, FileStop, IsText}
 use Rattle.dom_finding.specs.declared.reading.Stop.{Stop}
 use Rattle.dom_finding.proofs.Stopped.{file_stops}
 use Rattle.dom_shell.specs.Ends.{AreStopped, Call, IsEndAfter, Sent, call_of}
-use Rattle.dom_shell.specs.Tasks.{IsOnProgram, IsReadFor, command_for}
+use Rattle.dom_shell.specs.Tasks.{IsOnProgram, IsReadFor, command_for, texts_for}
 use Rattle.dom_shell.specs.declared.commands.task.Task.{Task}
 use Rattle.dom_shell.specs.declared.commands.task.Task.TheVariants as task
 use Rattle.dom_shell.proofs.Ended.{end_read_on, stop_end}
 
 -- the end of a task that is known
-pub for_task : (target : Target) (name text : List ℕ) (t u : Task) (call : Call) → t ≡ u → IsEndAfter (command_for target name u) (text ∷ []) call → IsEndAfter (command_for target name t) (text ∷ []) call
-for_task target name text t u call same end = subst (λ (z : Task). IsEndAfter (command_for target name z) (text ∷ []) call) (sym same) end
+pub for_task : (target : Target) (name text : List ℕ) (t u : Task) (call : Call) → t ≡ u → IsEndAfter (command_for target name u) (texts_for u text) call → IsEndAfter (command_for target name t) (texts_for t text) call
+for_task target name text t u call same end = subst (λ (z : Task). IsEndAfter (command_for target name z) (texts_for z text) call) (sym same) end
 
 -- and what is known of its text
 pub read_task : (target : Target) (text : List ℕ) (t u : Task) → t ≡ u → IsReadFor target t text → IsReadFor target u text
@@ -25,20 +25,30 @@ read_task target text t u same is = subst (λ (z : Task). IsReadFor target z tex
 pub read_program : (target : Target) (text : List ℕ) (t : Task) → IsOnProgram t → length text ≤ most_program → IsReadFor target t text
 read_program target text task.Compile on few = few
 read_program target text (task.Run trace) on few = few
+read_program target text (task.SelfRun seed count) on few = absurd on
 read_program target text (task.Config what parts trace) on few = absurd on
 
 -- the program is wanted first
 program_first : (target : Target) (name : List ℕ) (t : Task) → IsOnProgram t → IsNext (command_for target name t) [] (ask (program_file name))
 program_first target name task.Compile on = refl
 program_first target name (task.Run trace) on = refl
+program_first target name (task.SelfRun seed count) on = absurd on
 program_first target name (task.Config what parts trace) on = absurd on
+
+-- and is the one text that is read for it
+program_alone : (t : Task) (text : List ℕ) → IsOnProgram t → texts_for t text ≡ text ∷ []
+program_alone task.Compile text on = refl
+program_alone (task.Run trace) text on = refl
+program_alone (task.SelfRun seed count) text on = absurd on
+program_alone (task.Config what parts trace) text on = absurd on
 
 module _ (target : Target) (name : List ℕ) (t : Task) (on : IsOnProgram t) (hash : Hash) (files : List ℕ → Option (List ℕ)) where
   -- what is behind the read of the program
   pub behind_read : (text : List ℕ) (mid : List ℕ → Option (List ℕ)) (before then now : List ℕ → ℕ) (sent : Sent) → IsText files (program_file name) text → ((n : List ℕ) → mid n ≡ files n) → AreKept before then
-      → IsEndAfter (command_for target name t) (text ∷ []) (call_of hash mid then now sent) → IsEndAfter (command_for target name t) [] (call_of hash files before now sent)
+      → IsEndAfter (command_for target name t) (texts_for t text) (call_of hash mid then now sent) → IsEndAfter (command_for target name t) [] (call_of hash files before now sent)
   behind_read text mid before then now sent is same kept end =
-      end_read_on (command_for target name t) [] (program_file name) text hash files mid before then now sent (program_first target name t on) is.0 is.1 same kept end
+      end_read_on (command_for target name t) [] (program_file name) text hash files mid before then now sent (program_first target name t on) is.0 is.1 same kept
+      (subst (λ (texts : List (List ℕ)). IsEndAfter (command_for target name t) texts (call_of hash mid then now sent)) (program_alone t text on) end)
 
   -- the program could not be read
   pub unread_end : (before now : List ℕ → ℕ) (sent : Sent) (stop : Stop) → FileStop files before now (program_file name) stop → AreStopped stop sent

@@ -4,9 +4,10 @@ use Rattle.dom_io.specs.Held.{IsPart, appended}
 use Rattle.trace_text.specs.Trace.{entries}
 use Rattle.dom_words.specs.State.{Hash}
 use Rattle.dom_finding.specs.Command.{Command, command_of}
-use Rattle.dom_finding.specs.Finding.{Finding, IsFoundAfter, IsTold, IsUnreadAfter, Job, MayHold, clocked, in_turn, watched, written}
+use Rattle.dom_finding.specs.Finding.{Finding, IsFoundAfter, IsTold, IsUnreadAfter, Job, MayHold, clocked, drawn, in_turn, watched, written}
 use Rattle.dom_finding.specs.Refusals.{refusal_line, refusal_status, words_line}
 use Rattle.dom_report.specs.RunReport.{run_report}
+use Rattle.dom_report.specs.SelfRun.{selfrun_report}
 use Rattle.dom_report.specs.SerialReport.{serial_report}
 use Rattle.dom_report.specs.WatchReport.{watch_report}
 
@@ -14,6 +15,7 @@ use Rattle.dom_report.specs.WatchReport.{watch_report}
 abbrev pub report_of : Hash → Job → List ℕ
 report_of hash (clocked parts packets) = run_report hash parts (entries packets)
 report_of hash (watched parts packets) = watch_report hash parts (entries packets)
+report_of hash (drawn target seed count parts) = selfrun_report hash target seed count parts
 report_of hash (in_turn c packets) = serial_report hash c (map (λ p. p.1) packets)
 report_of hash (written text) = text
 

@@ -4,6 +4,7 @@ mod config;
 mod over;
 mod program;
 mod run;
+mod selfrun;
 mod serial;
 mod targets;
 mod task;
@@ -15,8 +16,9 @@ ghost use Rattle.dom_shell.specs.Ends.{IsEndAfter, call_of, sent_as};
 use crate::commands::config::with_config;
 use crate::commands::program::with_program;
 use crate::commands::serial::serial;
+use crate::commands::targets::on_target;
 use crate::commands::task::{ConfigTask, Task};
-use dom_finding::Command;
+use dom_finding::{Command, own_program};
 use dom_io::{Shelf, Sink};
 use dom_words::HashUnits;
 use std::alloc::Global;
@@ -40,6 +42,15 @@ pub(crate) fn perform<F: Shelf, S: Sink, H: HashUnits>(
         Command::Serial(files) => serial(alloc, files, shelf, sink, hash),
         Command::Compile { target, program } => {
             with_program(alloc, target, Task::Compile, program, shelf, sink, hash)
+        }
+        Command::SelfRun {
+            target,
+            seed,
+            count,
+        } => {
+            let task = Task::SelfRun { seed, count };
+            let text = own_program(target).as_bytes();
+            on_target(alloc, target, task, text, shelf, sink, hash)
         }
         Command::Exec(files) => with_config(alloc, ConfigTask::Exec, files, shelf, sink, hash),
         Command::Watch(files) => with_config(alloc, ConfigTask::Watch, files, shelf, sink, hash),

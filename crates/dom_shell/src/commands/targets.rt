@@ -1,12 +1,13 @@
-ghost use Rattle.std.specs.Prelude.{◌≡◌, ℕ, ◌≤◌, List, [], ◌∷◌};
+ghost use Rattle.std.specs.Prelude.{◌≡◌, ℕ, ◌≤◌, List};
 ghost use Rattle.banzai_config.specs.Checked.{shape_with};
 ghost use Rattle.banzai_config.specs.Targets.{shape_of, template_fits};
 ghost use Rattle.dom_shell.specs.Ends.{IsEndAfter, call_of, sent_as};
-ghost use Rattle.dom_shell.specs.Tasks.{IsReadFor, command_for};
+ghost use Rattle.dom_shell.specs.Tasks.{IsReadFor, command_for, texts_for};
 
 use crate::commands::compile::compile_on;
 use crate::commands::over::over_on;
 use crate::commands::run::run_on;
+use crate::commands::selfrun::selfrun_on;
 use crate::commands::task::Task;
 use atom_traits::{AtomTemplate, IfElse, Nested, Pairs, Praw, Raw, Sub, Write};
 use banzai_config::{Geometry, Target, Template};
@@ -14,7 +15,7 @@ use dom_io::{Shelf, Sink};
 use dom_words::HashUnits;
 use std::alloc::Global;
 
-/// Does a task for a target, with the text of the first file: the one place in which a target chooses the types and numbers of
+/// Does a task for a target, with the text of the first file or of the command's own program: the one place in which a target chooses the types and numbers of
 /// what is done for it.
 pub(crate) fn on_target<F: Shelf, S: Sink, H: HashUnits>(
     alloc: Global,
@@ -26,7 +27,7 @@ pub(crate) fn on_target<F: Shelf, S: Sink, H: HashUnits>(
     hash: &H,
 ) -> u8
     requires { IsReadFor target task text.now }
-    ensures end { (name : List ℕ) → IsEndAfter (command_for target name task.entry) (text.now ∷ []) (call_of (H.meaning hash.now) (F.content shelf.old) (F.faults shelf.old) (F.faults shelf.new) (sent_as result (S.held sink.old) (S.held sink.new) (S.faults sink.old) (S.faults sink.new))) }
+    ensures end { (name : List ℕ) → IsEndAfter (command_for target name task.entry) (texts_for task.entry text.now) (call_of (H.meaning hash.now) (F.content shelf.old) (F.faults shelf.old) (F.faults shelf.new) (sent_as result (S.held sink.old) (S.held sink.new) (S.faults sink.old) (S.faults sink.new))) }
     ensures files { (name : List ℕ) → F.content shelf.new name ≡ F.content shelf.old name }
 {
     match target.geometry {
@@ -66,7 +67,7 @@ fn on_template<
     requires stateless { (1 ≤ SL) × (SL ≤ 65535) }
     requires stateful { (1 ≤ SF) × (SF ≤ 65535) }
     requires shape { shape_of target ≡ shape_with (template_fits target.template K) K DEPTH SL SF MUL }
-    ensures end { (name : List ℕ) → IsEndAfter (command_for target name task.entry) (text.now ∷ []) (call_of (H.meaning hash.now) (F.content shelf.old) (F.faults shelf.old) (F.faults shelf.new) (sent_as result (S.held sink.old) (S.held sink.new) (S.faults sink.old) (S.faults sink.new))) }
+    ensures end { (name : List ℕ) → IsEndAfter (command_for target name task.entry) (texts_for task.entry text.now) (call_of (H.meaning hash.now) (F.content shelf.old) (F.faults shelf.old) (F.faults shelf.new) (sent_as result (S.held sink.old) (S.held sink.new) (S.faults sink.old) (S.faults sink.new))) }
     ensures files { (name : List ℕ) → F.content shelf.new name ≡ F.content shelf.old name }
 {
     match target.template {
@@ -118,13 +119,16 @@ fn perform_on<
     requires stateless { (1 ≤ SL) × (SL ≤ 65535) }
     requires stateful { (1 ≤ SF) × (SF ≤ 65535) }
     requires shape { shape_of target ≡ shape_with T.fits T.CONST_BITS DEPTH SL SF MUL }
-    ensures end { (name : List ℕ) → IsEndAfter (command_for target name task.entry) (text.now ∷ []) (call_of (H.meaning hash.now) (F.content shelf.old) (F.faults shelf.old) (F.faults shelf.new) (sent_as result (S.held sink.old) (S.held sink.new) (S.faults sink.old) (S.faults sink.new))) }
+    ensures end { (name : List ℕ) → IsEndAfter (command_for target name task.entry) (texts_for task.entry text.now) (call_of (H.meaning hash.now) (F.content shelf.old) (F.faults shelf.old) (F.faults shelf.new) (sent_as result (S.held sink.old) (S.held sink.new) (S.faults sink.old) (S.faults sink.new))) }
     ensures files { (name : List ℕ) → F.content shelf.new name ≡ F.content shelf.old name }
 {
     match task {
         Task::Compile => compile_on::<T, DEPTH, SL, SF, MUL, S>(alloc, target, text, sink),
         Task::Run(trace) => run_on::<T, DEPTH, SL, SF, MUL, F, S, H>(
             alloc, target, text, trace, shelf, sink, hash,
+        ),
+        Task::SelfRun { seed, count } => selfrun_on::<T, DEPTH, SL, SF, MUL, S, H>(
+            alloc, target, seed, count, text, sink, hash,
         ),
         Task::Config { what, parts, trace } => over_on::<T, DEPTH, SL, SF, MUL, F, S, H>(
             alloc, target, what, parts, trace, shelf, sink, hash,

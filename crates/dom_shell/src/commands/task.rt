@@ -1,12 +1,14 @@
 use banzai_config::Parts;
 
-/// What is to be done for a target, with the text of the first file.
+/// What is to be done for a target, with the text of the first file, or of the command's own program.
 #[derive(Drop)]
 pub(crate) enum Task<'a> {
     /// Put the configuration of the program with this text.
     Compile,
     /// Clock it over the trace in the file of this name.
     Run(&'a str),
+    /// Clock it over so many packets, drawn from the seed.
+    SelfRun { seed: u32, count: u32 },
     /// Clock the configuration with this text, which has these parts, over the trace in the file of this name.
     Config {
         what: ConfigTask,

@@ -17,6 +17,17 @@ pub returns-in-Run-clause-end : goal.returns-in-Run-clause-end
 returns-in-Run-clause-end g c name =
     for_task c.args.target name c.args.text.now c.args.task (task.Run c.in-Run.trace) _ c.in-Run.is (c.run_on.ensures.end name)
 
+pub selfrun_on-requires-clause-text : goal.selfrun_on-requires-clause-text
+selfrun_on-requires-clause-text g c = (read_task c.args.target c.args.text.now c.args.task (task.SelfRun c.in-SelfRun.seed c.in-SelfRun.count) c.in-SelfRun.is c.requires.text).0
+
+pub selfrun_on-requires-clause-few : goal.selfrun_on-requires-clause-few
+selfrun_on-requires-clause-few g c = (read_task c.args.target c.args.text.now c.args.task (task.SelfRun c.in-SelfRun.seed c.in-SelfRun.count) c.in-SelfRun.is c.requires.text).1
+
+pub returns-in-SelfRun-clause-end : goal.returns-in-SelfRun-clause-end
+returns-in-SelfRun-clause-end g c name =
+    for_task c.args.target name c.args.text.now c.args.task (task.SelfRun c.in-SelfRun.seed c.in-SelfRun.count) _ c.in-SelfRun.is
+    (c.selfrun_on.ensures (g.F.Shelf.content c.args.shelf.now) (g.F.Shelf.faults c.args.shelf.now))
+
 pub returns-in-Config-clause-end : goal.returns-in-Config-clause-end
 returns-in-Config-clause-end g c name =
     for_task c.args.target name c.args.text.now c.args.task (task.Config c.in-Config.what c.in-Config.parts c.in-Config.trace) _ c.in-Config.is
