@@ -1,7 +1,8 @@
 -- The words of the command line.
-use Rattle.std.specs.Prelude.{ℕ, List, [], ◌∷◌, Option, None, Some, option_map, Bool, ◌&&◌, ◌==◌, not, length, map, codes, if◌then◌else◌, String, string_bytes}
+use Rattle.std.specs.Prelude.{ℕ, List, [], ◌∷◌, Option, None, Some, option_and_then, option_map, Bool, ◌&&◌, ◌==◌, decimal, nat_le, not, length, map, codes, if◌then◌else◌, String, string_bytes}
 use Rattle.std.specs.declared.alloc.Global.{Global}
 use Rattle.dom_words.specs.Names.{is_same}
+use Rattle.dom_words.specs.Number.{count_of}
 use Rattle.banzai_config.specs.declared.target.Target.{Target}
 use Rattle.banzai_config.specs.Targets.{target_named}
 
@@ -27,6 +28,8 @@ pub data Command : Type 0 where
   exec : ConfigNames → Command
   -- and every cycle of it told
   watch : ConfigNames → Command
+  -- a program of the command's own clocked on a target, over packets that are drawn: from this seed, so many of them
+  selfrun : Target → ℕ → ℕ → Command
 
 -- the texts of words
 abbrev pub texts_of : List (String Global) → List (List ℕ)
@@ -41,6 +44,13 @@ files_named program trace = record { program = program; trace = trace }
 
 abbrev pub configs_named : List ℕ → List ℕ → ConfigNames
 configs_named config trace = record { config = config; trace = trace }
+
+-- a number from low to high, if its decimal is this text: without a sign and leading zeros
+abbrev pub if_plain : ℕ → ℕ → List ℕ → ℕ → Option ℕ
+if_plain low high text n = if is_same (decimal n) text && (nat_le low n && nat_le n high) then Some n else None
+
+abbrev pub number_in : ℕ → ℕ → List ℕ → Option ℕ
+number_in low high text = option_and_then (if_plain low high text) (count_of text)
 
 -- The words behind the command's own.
 
@@ -69,6 +79,14 @@ abbrev pub watch_of : List (List ℕ) → Option Command
 watch_of (config ∷ trace ∷ []) = if is_file config && is_file trace then Some (watch (configs_named config trace)) else None
 watch_of _ = None
 
+-- `TARGET SEED COUNT`, where TARGET is the name of a target, SEED a number up to 4294967295, and COUNT one up to 400000
+abbrev pub selfrun_of : List (List ℕ) → Option Command
+selfrun_of (name ∷ seed ∷ count ∷ []) =
+    option_and_then
+    (λ target. option_and_then (λ s. option_map (λ n. selfrun target s n) (number_in 0 400000 count)) (number_in 0 4294967295 seed))
+    (target_named name)
+selfrun_of _ = None
+
 -- the command that words spell
 abbrev pub command_of : List (List ℕ) → Option Command
 command_of [] = None
@@ -78,4 +96,5 @@ command_of (command ∷ words) =
     else (if is_same command (codes "compile") then compile_of words
     else (if is_same command (codes "exec") then exec_of words
     else (if is_same command (codes "watch") then watch_of words
-    else None))))
+    else (if is_same command (codes "selfrun") then selfrun_of words
+    else None)))))

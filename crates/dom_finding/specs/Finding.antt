@@ -6,11 +6,13 @@ use Rattle.dom_ast.specs.Resolved.{CheckedForm}
 use Rattle.dom_compile.specs.Programs.{most_program}
 use Rattle.banzai_config.specs.Parts.{PartsForm}
 use Rattle.banzai_config.specs.Targets.{shape_of}
+use Rattle.banzai_config.specs.declared.target.Target.{Target}
 use Rattle.config_text.specs.Fronts.{text_of}
 use Rattle.dom_compile.specs.Answer.{IsCompileAnswer}
 use Rattle.dom_compile.specs.Verdict.{IsProgram}
-use Rattle.dom_finding.specs.Command.{Command, ConfigNames, compile, exec, run, serial, watch}
+use Rattle.dom_finding.specs.Command.{Command, ConfigNames, compile, exec, run, selfrun, serial, watch}
 use Rattle.dom_finding.specs.Configs.{ConfigForm, IsConfig}
+use Rattle.dom_finding.specs.OwnProgram.{own_program}
 use Rattle.dom_finding.specs.Refusals.{refused_compile, refused_config, refused_program, refused_trace}
 use Rattle.dom_finding.specs.declared.refusals.Refusal.{Refusal}
 use Rattle.dom_finding.specs.declared.refusals.Refusal.TheVariants as refusal
@@ -25,6 +27,8 @@ pub data Job : Type 0 where
   clocked : PartsForm → Packets → Job
   -- and tell every cycle
   watched : PartsForm → Packets → Job
+  -- clock a configuration for a target over packets that are drawn: from this seed, so many of them
+  drawn : Target → ℕ → ℕ → PartsForm → Job
   -- run this program on the packets in turn
   in_turn : CheckedForm → Packets → Job
   -- put this text
@@ -102,6 +106,9 @@ IsNext (compile target name) (program ∷ []) next =
 IsNext (compile target name) (second ∷ program ∷ more) next = ⊥
 IsNext (exec names) texts next = IsNextOver names (λ parts. ask (trace_file names.trace)) clocked texts next
 IsNext (watch names) texts next = IsNextOver names (λ parts. ask (trace_file names.trace)) watched texts next
+IsNext (selfrun target seed count) [] next =
+    Gives (IsCompileAnswer (shape_of target) (own_program target)) refused_compile (λ parts. found (Ok (drawn target seed count parts))) next
+IsNext (selfrun target seed count) (text ∷ texts) next = ⊥
 
 -- Which bytes a file holds.
 

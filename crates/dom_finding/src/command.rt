@@ -1,8 +1,14 @@
 ghost use Rattle.std.specs.Prelude.{◌≡◌, option_map};
-ghost use Rattle.dom_finding.specs.Command.{command_of, compile_of, exec_of, run_of, serial_of, texts_of, watch_of};
+ghost use Rattle.dom_finding.specs.Command.{command_of, compile_of, exec_of, number_in as number_within, run_of, selfrun_of, serial_of, texts_of, watch_of};
 ghost use Rattle.dom_finding.specs.CommandForm.{command_in};
 
 use banzai_config::Target;
+use dom_words::read_count;
+use itoa::Buffer;
+
+const MOST_SEED: u32 = 4_294_967_295;
+
+const MOST_PACKETS: u32 = 400_000;
 
 /// The files that a command over a program names.
 #[derive(Clone, Copy, Drop)]
@@ -42,6 +48,14 @@ pub enum Command<'a> {
     Exec(ConfigFiles<'a>),
     /// A configuration clocked, and every cycle of it told.
     Watch(ConfigFiles<'a>),
+    /// A program of the command's own clocked on a target, over packets that are drawn.
+    SelfRun {
+        target: Target,
+        /// What the packets are drawn from.
+        seed: u32,
+        /// How many of them.
+        count: u32,
+    },
 }
 
 /// The command that the words spell (docs/FORMATS.md, "Commands"); `None` where they are of no form.
@@ -54,6 +68,7 @@ pub fn read_words(words: &[String]) -> Option<Command<'_>>
         [command, rest @ ..] if command.as_str() == "compile" => compile_in(rest),
         [command, rest @ ..] if command.as_str() == "exec" => exec_in(rest),
         [command, rest @ ..] if command.as_str() == "watch" => watch_in(rest),
+        [command, rest @ ..] if command.as_str() == "selfrun" => selfrun_in(rest),
         _ => None,
     }
 }
@@ -128,5 +143,36 @@ fn watch_in(words: &[String]) -> Option<Command<'_>>
             }))
         }
         _ => None,
+    }
+}
+
+fn selfrun_in(words: &[String]) -> Option<Command<'_>>
+    ensures { option_map command_in result ≡ selfrun_of (texts_of words.entry.now) }
+{
+    match words {
+        [name, seed, count] => {
+            let target = Target::named(name.as_str())?;
+            let seed = number_in(seed.as_str(), 0, MOST_SEED)?;
+            let count = number_in(count.as_str(), 0, MOST_PACKETS)?;
+            Some(Command::SelfRun {
+                target,
+                seed,
+                count,
+            })
+        }
+        _ => None,
+    }
+}
+
+// The number from `low` to `high` that a text writes, without a sign and leading zeros.
+fn number_in(text: &str, low: u32, high: u32) -> Option<u32>
+    ensures { result ≡ number_within low high text.now }
+{
+    let number = read_count(text.as_bytes())?;
+    let mut digits = Buffer::new();
+    if digits.format(number) == text && low <= number && number <= high {
+        Some(number)
+    } else {
+        None
     }
 }

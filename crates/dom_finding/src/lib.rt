@@ -6,6 +6,7 @@ mod configs;
 pub mod laws;
 mod reading;
 mod refusals;
+mod selfrun;
 mod source;
 mod wanted;
 
@@ -13,5 +14,6 @@ pub use command::{Command, ConfigFiles, Files, read_words};
 pub use configs::{config_stop, parts_in};
 pub use reading::{Stop, config_file, packets_of, program_file, text_in, trace_file};
 pub use refusals::Refusal;
+pub use selfrun::own_program;
 pub use source::{compile_stop, program_in};
 pub use wanted::WantedFile;
