@@ -200,7 +200,7 @@ fn refused_traces(rt: HostRuntime) -> Result<(), Fail> {
     Ok(())
 }
 
-const REFUSED_WORDS: [&str; 15] = [
+const REFUSED_WORDS: [&str; 21] = [
     "",
     "run",
     "run raw-tiny p t",
@@ -216,6 +216,12 @@ const REFUSED_WORDS: [&str; 15] = [
     "exec c",
     "exec c t u",
     "exec raw-small c t",
+    "selfrun raw-small 7",
+    "selfrun raw-tiny 7 1",
+    "selfrun raw-small 07 1",
+    "selfrun raw-small -7 1",
+    "selfrun raw-small 4294967296 1",
+    "selfrun raw-small 7 400001",
 ];
 
 fn refuses_words(rt: &impl Abort, alloc: Global, lines: &[&str]) -> Result<(), Fail> {
@@ -233,12 +239,13 @@ fn refused_words(rt: HostRuntime) -> Result<(), Fail> {
     refuses_words(&rt, rt.alloc(), &REFUSED_WORDS)
 }
 
-const CUT_REPORTS: [(&str, &str); 5] = [
+const CUT_REPORTS: [(&str, &str); 6] = [
     ("run raw-small p t", "cycle,x,sum\n4,5,5\n7,"),
     ("exec c t", "cycle,x,sum\n4,5,5\n7,"),
     ("watch c t", "cycle,0\nreg,0,5,0,0\ncy"),
     ("serial p t", "packet,x,sum\n1,5,5\n2,"),
     ("compile raw-small p", "banzai,1\ntarget,raw-small\nfi"),
+    ("selfrun raw-small 7 1", "selfrun,raw-small,7,1\npackets,1\ncy"),
 ];
 
 #[test]
@@ -253,7 +260,7 @@ fn third_put_fails(rt: HostRuntime) -> Result<(), Fail> {
     Ok(())
 }
 
-const READS: [(&str, &str, &str, u64, u8); 15] = [
+const READS: [(&str, &str, &str, u64, u8); 16] = [
     ("run raw-small p t", PROGRAM, TRACE, 2, 0),
     ("serial p t", PROGRAM, TRACE, 2, 0),
     ("run raw-small p t", PROGRAM, "no trace", 2, 3),
@@ -269,6 +276,7 @@ const READS: [(&str, &str, &str, u64, u8); 15] = [
     ("watch c t", PROGRAM, TRACE, 2, 0),
     ("watch c t", PROGRAM, "no trace", 2, 3),
     ("watch p t", PROGRAM, TRACE, 1, 3),
+    ("selfrun raw-small 7 1", PROGRAM, TRACE, 0, 0),
 ];
 
 // A row has the number of reads that can succeed: none after them can.
@@ -319,7 +327,7 @@ fn failed_reads(rt: HostRuntime) -> Result<(), Fail> {
     Ok(())
 }
 
-const WHOLE_REPORTS: [(&str, &str); 5] = [
+const WHOLE_REPORTS: [(&str, &str); 6] = [
     (
         "run raw-small p t",
         "cycle,x,sum\n4,5,5\n7,7,12\nstate,total,0,12\nplace,total,1\ndone,2,8\n",
@@ -337,6 +345,10 @@ const WHOLE_REPORTS: [(&str, &str); 5] = [
         "cycle,0\nreg,0,5,0,0\ncycle,1\nreg,1,5,0,5\ntouch,1,total,0\ncycle,2\nreg,2,5,0,5\ncycle,3\nreg,0,7,0,0\nreg,3,5,0,5\ncycle,4\nout,5,5\nreg,1,7,0,12\ntouch,1,total,0\ncycle,5\nreg,2,7,0,12\ncycle,6\nreg,3,7,0,12\ncycle,7\nout,7,12\ndone,2,8\n",
     ),
     ("compile raw-small p", CONFIG),
+    (
+        "selfrun raw-small 7 1",
+        "selfrun,raw-small,7,1\npackets,1\ncycles,5\nfold,1340218\ntotal,40140\n",
+    ),
 ];
 
 // One line is one put: where put k takes nothing and fails, the lines before it have been put.

@@ -96,6 +96,30 @@ fn each_target(rt: HostRuntime) -> Result<(), Fail> {
     Ok(())
 }
 
+// Each target has a configuration for the program of `selfrun`, whose one packet leaves behind its stages.
+#[test]
+fn drawn_on_each_target(rt: HostRuntime) -> Result<(), Fail> {
+    let alloc = rt.alloc();
+    let templates = ["write", "raw", "praw", "ifelse", "sub", "nested", "pairs"];
+    for template in templates {
+        let fold = if template == "write" {
+            1_300_078
+        } else {
+            1_340_218
+        };
+        for (geometry, cycles) in [("small", 5), ("medium", 13), ("large", 33)] {
+            let command = format!(in alloc; "selfrun {template}-{geometry} 7 1")?;
+            let mut text = format!(in alloc; "selfrun,{template}-{geometry},7,1\npackets,1\n")?;
+            let end = format!(in alloc; "cycles,{cycles}\nfold,{fold}\ntotal,40140\n")?;
+            text.push_str(end.as_str())?;
+            let given = answered(alloc, command.as_str(), KEPT, TRACE)?;
+            assert_eq!(rt; given.status, 0);
+            assert_eq!(rt; given.held.as_slice(), text.as_bytes());
+        }
+    }
+    Ok(())
+}
+
 #[test]
 fn hashes_and_forks(rt: HostRuntime) -> Result<(), Fail> {
     let given = answered(rt.alloc(), "compile praw-medium p", FLOWLET, TRACE)?;
