@@ -1,4 +1,4 @@
-use Rattle.std.proofs.Common.{ap, length, nat_eq, not, ◌∙◌}
+use Rattle.std.proofs.Common.{ap, nat_eq, not, ◌∙◌}
 use Rattle.trace_text.specs.Lines.{joined}
 use Rattle.banzai_config.specs.Checked.{shape_with}
 use Rattle.banzai_config.proofs.Staged.{legal_depth}
