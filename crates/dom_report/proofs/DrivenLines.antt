@@ -43,7 +43,7 @@ module _ (hash : Hash) where
   lines_kept lines (cycle ∷ cycles) = lines_kept lines cycles
 
   -- what leaves in the cycle behind some
-  left_at : (m : MachineForm) (xs : List Entry) (x : Entry) (ys : List Entry)
+  pub left_at : (m : MachineForm) (xs : List Entry) (x : Entry) (ys : List Entry)
       → slice_index_or (left_over m (xs ++ x ∷ ys)) (length xs) None ≡ leaves_with hash (after_entries hash m xs).config (after_entries hash m xs).row x
   left_at m [] x ys = refl
   left_at m (z ∷ zs) x ys = left_at (after_cycle hash m z) zs x ys

@@ -10,3 +10,4 @@ pub mod Reports
 pub mod Summaries
 pub mod WatchEnd
 pub mod WatchParts
+pub mod Watched

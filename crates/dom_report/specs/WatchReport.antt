@@ -1,6 +1,6 @@
 -- The report of `watch`: for each cycle its number, the packet that leaves in it, the registers that are filled after it and
 -- the touches in it; behind the last cycle the end.
-use Rattle.std.specs.Prelude.{◌≡◌, ℕ, ◌+◌, ◌≤◌, Some, None, List, [], ◌∷◌, ◌++◌, length, map}
+use Rattle.std.specs.Prelude.{◌≡◌, ℕ, ◌+◌, ◌≤◌, Some, None, List, [], ◌∷◌, ◌++◌, length, map, slice_index_or, take}
 use Rattle.std.specs.List.{flat_map}
 use Rattle.dom_words.specs.State.{Hash}
 use Rattle.trace_text.specs.Lines.{Legend, clock_line, done_line, joined, name_at, out_line, reg_line, touch_line}
@@ -8,7 +8,7 @@ use Rattle.banzai_config.specs.Action.{Entry}
 use Rattle.banzai_config.specs.Parts.{PartsForm}
 use Rattle.banzai_machine.specs.declared.touch.Touch.{Touch}
 use Rattle.banzai_machine.specs.Alone.{packets_of}
-use Rattle.banzai_machine.specs.Pipe.{drain, pipe}
+use Rattle.banzai_machine.specs.Pipe.{drain, emitted, pipe}
 use Rattle.banzai_machine.specs.State.{MachineForm}
 use Rattle.dom_report.specs.Clocking.{Cycle, cycles_from}
 use Rattle.dom_report.specs.RunReport.{array_names}
@@ -48,6 +48,14 @@ pub record IsFor (lines : Legend) (p : PartsForm) : Type 0 where
 -- a configuration's machine at its beginning
 abbrev pub at_beginning : Hash → PartsForm → MachineForm
 at_beginning hash p = record { config = p; row = pipe hash p []; touches = [] }
+
+-- what a cycle tells of a configuration that is clocked over these entries: it is cycle k, which the machine has done for the
+-- entries up to and with its own, and what left in it is what the pipeline emits in this cycle
+pub record IsCycleOf (hash : Hash) (p : PartsForm) (entries : List Entry) (k : ℕ) (cycle : Cycle) : Type 0 where
+  pub number_is : cycle.number ≡ k
+  pub config_is : cycle.machine.config ≡ p
+  pub row_is : cycle.machine.row ≡ pipe hash p (take (k + 1) entries)
+  pub left_is : cycle.left ≡ slice_index_or (emitted hash p entries) k None
 
 -- the report of a configuration that is watched over these entries and the drain
 abbrev pub watch_report : Hash → PartsForm → List Entry → List ℕ

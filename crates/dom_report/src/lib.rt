@@ -7,6 +7,7 @@ mod drawing;
 mod driving;
 mod each_cycle;
 mod entering;
+pub mod laws;
 mod moment;
 mod run_report;
 mod selfrun;

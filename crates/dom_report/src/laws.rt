@@ -1,0 +1,15 @@
+//! What holds of the cycles that are told.
+
+ghost use Rattle.std.specs.Prelude.{◌≡◌, ℕ, List, Some, length, slice_get};
+ghost use Rattle.banzai_config.specs.Action.{Entry};
+ghost use Rattle.banzai_config.specs.Parts.{PartsForm};
+ghost use Rattle.dom_report.specs.Clocking.{Cycle, cycles_from};
+ghost use Rattle.dom_report.specs.WatchReport.{IsCycleOf, at_beginning};
+ghost use Rattle.dom_words.specs.State.{Hash};
+
+/// The cycles of which the report of `watch` tells are those of the pipeline: there is one for each entry (`count`), and cycle
+/// k shows what the pipeline emits in it, and the machine that stands at the entries up to and with its own (`each`).
+pub fn watched_cycles_are_the_pipeline()
+    ensures count { (hash : Hash) (p : PartsForm) (entries : List Entry) → length (cycles_from hash (at_beginning hash p) 0 entries) ≡ length entries }
+    ensures each { (hash : Hash) (p : PartsForm) (entries : List Entry) (k : ℕ) (cycle : Cycle) → slice_get (cycles_from hash (at_beginning hash p) 0 entries) k ≡ Some cycle → IsCycleOf hash p entries k cycle }
+{}
