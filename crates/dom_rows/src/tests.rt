@@ -90,7 +90,11 @@ fn puts_each(
     for (program, trace, text) in rows {
         let given = answered(alloc, command, program, trace)?;
         assert_eq!(rt; given.status, status);
-        assert_eq!(rt; given.held.as_slice(), text.as_bytes(), "for {program} and {trace}");
+        assert_eq!(rt;
+            given.held.as_slice(),
+            text.as_bytes(),
+            "for {program} and {trace}"
+        );
     }
     Ok(())
 }
@@ -127,7 +131,11 @@ const REPORTS: [(&str, &str, &str); 6] = [
         "cycle,x,sum\n4,5,5\n7,7,12\nstate,total,0,12\nplace,total,1\ndone,2,8\n",
     ),
     (PROGRAM, "gap,x\n", "cycle,x,sum\nplace,total,1\ndone,0,4\n"),
-    (PROGRAM, "gap\n1\n", "cycle,x,sum\n5,0,0\nplace,total,1\ndone,1,6\n"),
+    (
+        PROGRAM,
+        "gap\n1\n",
+        "cycle,x,sum\n5,0,0\nplace,total,1\ndone,1,6\n",
+    ),
     (
         PROGRAM,
         "gap,sum,x\n0,9,4294967295",
@@ -177,10 +185,18 @@ const REFUSED_TRACES: [(&str, &str, &str); 10] = [
     (PROGRAM, "gap,y\n", "refused,trace,unknown-column,2\n"),
     (PROGRAM, "gap,x,sum,x\n", "refused,trace,column-twice,4\n"),
     (PROGRAM, "gap,x\n0\n", "refused,trace,row-length,1\n"),
-    (PROGRAM, "gap,x\n0,1\n0,1,1\n", "refused,trace,row-length,2\n"),
+    (
+        PROGRAM,
+        "gap,x\n0,1\n0,1,1\n",
+        "refused,trace,row-length,2\n",
+    ),
     (PROGRAM, "gap,x\n0,\n", "refused,trace,value,1,2\n"),
     (PROGRAM, "gap,x\n\n0,1\n-1,5\n", "refused,trace,value,2,1\n"),
-    (PROGRAM, "gap,x\n0,4294967296\n", "refused,trace,value,1,2\n"),
+    (
+        PROGRAM,
+        "gap,x\n0,4294967296\n",
+        "refused,trace,value,1,2\n",
+    ),
 ];
 
 #[test]
@@ -229,7 +245,11 @@ fn refuses_words(rt: &impl Abort, alloc: Global, lines: &[&str]) -> Result<(), F
         let files = files_of(alloc, PROGRAM, TRACE)?;
         let given = answer(alloc, line, files, Vec::new(alloc), Vec::new(alloc))?;
         assert_eq!(rt; given.status, 2, "for {line}");
-        assert_eq!(rt; given.held.as_slice(), b"refused,words\n".as_slice(), "for {line}");
+        assert_eq!(rt;
+            given.held.as_slice(),
+            b"refused,words\n".as_slice(),
+            "for {line}"
+        );
     }
     Ok(())
 }
@@ -245,7 +265,10 @@ const CUT_REPORTS: [(&str, &str); 6] = [
     ("watch c t", "cycle,0\nreg,0,5,0,0\ncy"),
     ("serial p t", "packet,x,sum\n1,5,5\n2,"),
     ("compile raw-small p", "banzai,1\ntarget,raw-small\nfi"),
-    ("selfrun raw-small 7 1", "selfrun,raw-small,7,1\npackets,1\ncy"),
+    (
+        "selfrun raw-small 7 1",
+        "selfrun,raw-small,7,1\npackets,1\ncy",
+    ),
 ];
 
 #[test]

@@ -31,15 +31,7 @@ pub(crate) fn selfrun_on<
     const MUL: bool,
     S: Sink,
     H: HashUnits,
->(
-    alloc: Global,
-    target: Target,
-    seed: u32,
-    count: u32,
-    text: &[u8],
-    sink: &mut S,
-    hash: &H,
-) -> u8
+>(alloc: Global, target: Target, seed: u32, count: u32, text: &[u8], sink: &mut S, hash: &H) -> u8
     requires text { text.now ≡ own_program target }
     requires few { length text.now ≤ 65536 }
     requires depth { (1 ≤ DEPTH) × (DEPTH ≤ 65535) }
@@ -87,13 +79,7 @@ fn summed<
 }
 
 // What a run of this configuration comes to.
-fn clocked<
-    T: AtomTemplate,
-    const DEPTH: usize,
-    const SL: usize,
-    const SF: usize,
-    H: HashUnits,
->(
+fn clocked<T: AtomTemplate, const DEPTH: usize, const SL: usize, const SF: usize, H: HashUnits>(
     alloc: Global,
     config: Config<T>,
     seed: u32,
@@ -109,12 +95,5 @@ fn clocked<
     let mut entering = Packet::zeros(alloc, fields)?;
     let mut leaving = Packet::zeros(alloc, fields)?;
     let mut machine = Machine::<T, DEPTH, SL, SF>::new(alloc, config)?;
-    Ok(run_drawn(
-        &mut machine,
-        seed,
-        count,
-        hash,
-        &mut entering,
-        &mut leaving,
-    ))
+    Ok(run_drawn(&mut machine, seed, count, hash, &mut entering, &mut leaving))
 }

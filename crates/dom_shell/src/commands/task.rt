@@ -8,7 +8,10 @@ pub(crate) enum Task<'a> {
     /// Clock it over the trace in the file of this name.
     Run(&'a str),
     /// Clock it over so many packets, drawn from the seed.
-    SelfRun { seed: u32, count: u32 },
+    SelfRun {
+        seed: u32,
+        count: u32,
+    },
     /// Clock the configuration with this text, which has these parts, over the trace in the file of this name.
     Config {
         what: ConfigTask,
