@@ -1,5 +1,5 @@
 -- What a command finds in its files, one after another. `Holds` says which bytes the files hold.
-use Rattle.std.specs.Prelude.{◌≡◌, ℕ, ◌<◌, ◌≤◌, Option, Some, IfSome, List, [], ◌∷◌, length, Result, Ok, Err}
+use Rattle.std.specs.Prelude.{◌≡◌, ℕ, ◌<◌, ◌≤◌, Option, Some, IfSome, List, [], ◌∷◌, if◌then◌else◌, length, nat_le, Result, Ok, Err}
 use Rattle.dom_io.specs.Causes.{Rose}
 use Rattle.trace_text.specs.Trace.{IsTraceOf}
 use Rattle.dom_ast.specs.Resolved.{CheckedForm}
@@ -10,7 +10,7 @@ use Rattle.banzai_config.specs.declared.target.Target.{Target}
 use Rattle.config_text.specs.Fronts.{text_of}
 use Rattle.dom_compile.specs.Answer.{IsCompileAnswer}
 use Rattle.dom_compile.specs.Verdict.{IsProgram}
-use Rattle.dom_finding.specs.Command.{Command, ConfigNames, compile, exec, run, selfrun, serial, watch}
+use Rattle.dom_finding.specs.Command.{Command, ConfigNames, compile, exec, probe, run, selfrun, serial, watch}
 use Rattle.dom_finding.specs.Configs.{ConfigForm, IsConfig}
 use Rattle.dom_finding.specs.OwnProgram.{own_program}
 use Rattle.dom_finding.specs.Refusals.{refused_compile, refused_config, refused_program, refused_trace}
@@ -27,6 +27,8 @@ pub data Job : Type 0 where
   clocked : PartsForm → Packets → Job
   -- and tell every cycle
   watched : PartsForm → Packets → Job
+  -- clock a configuration over the packets under taps before this stage
+  tapped : ℕ → PartsForm → Packets → Job
   -- clock a configuration for a target over packets that are drawn: from this seed, so many of them
   drawn : Target → ℕ → ℕ → PartsForm → Job
   -- run this program on the packets in turn
@@ -87,6 +89,11 @@ IsNextOver names go job (trace ∷ config ∷ []) next =
     (c : ConfigForm) × IsConfig config (Ok c) × Gives (IsTraceOf trace c.parts.fields (length c.parts.stages)) refused_trace (λ packets. found (Ok (job c.parts packets))) next
 IsNextOver names go job (third ∷ trace ∷ config ∷ more) next = ⊥
 
+-- the trace of a configuration that has this stage; one that has not is refused
+abbrev pub trace_behind : ℕ → ConfigNames → PartsForm → Next
+trace_behind stage names parts =
+    if nat_le stage (length parts.stages) then ask (trace_file names.trace) else found (Err (refusal.Stage (length parts.stages)))
+
 -- after these texts, the newest first, each within its limit
 abbrev pub IsNext : Command → List (List ℕ) → Next → Type 0
 IsNext (run target files) [] next = next ≡ ask (program_file files.program)
@@ -106,6 +113,7 @@ IsNext (compile target name) (program ∷ []) next =
 IsNext (compile target name) (second ∷ program ∷ more) next = ⊥
 IsNext (exec names) texts next = IsNextOver names (λ parts. ask (trace_file names.trace)) clocked texts next
 IsNext (watch names) texts next = IsNextOver names (λ parts. ask (trace_file names.trace)) watched texts next
+IsNext (probe names stage) texts next = IsNextOver names (trace_behind stage names) (tapped stage) texts next
 IsNext (selfrun target seed count) [] next =
     Gives (IsCompileAnswer (shape_of target) (own_program target)) refused_compile (λ parts. found (Ok (drawn target seed count parts))) next
 IsNext (selfrun target seed count) (text ∷ texts) next = ⊥

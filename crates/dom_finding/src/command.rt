@@ -1,10 +1,13 @@
-ghost use Rattle.std.specs.Prelude.{◌≡◌, option_map};
-ghost use Rattle.dom_finding.specs.Command.{command_of, compile_of, exec_of, number_in as number_within, run_of, selfrun_of, serial_of, texts_of, watch_of};
+ghost use Rattle.std.specs.Prelude.{◌≡◌, ◌≤◌, IfSome, option_map};
+ghost use Rattle.dom_finding.specs.Command.{command_of, compile_of, exec_of, number_in as number_within, probe_of, run_of, selfrun_of, serial_of, texts_of, watch_of};
 ghost use Rattle.dom_finding.specs.CommandForm.{command_in};
 
+use crate::stage::Stage;
 use banzai_config::Target;
 use dom_words::read_count;
 use itoa::Buffer;
+
+const MOST_STAGE: u32 = 32;
 
 const MOST_SEED: u32 = 4_294_967_295;
 
@@ -48,6 +51,12 @@ pub enum Command<'a> {
     Exec(ConfigFiles<'a>),
     /// A configuration clocked, and every cycle of it told.
     Watch(ConfigFiles<'a>),
+    /// A configuration clocked under taps.
+    Probe {
+        files: ConfigFiles<'a>,
+        /// The stage before which they are attached.
+        stage: Stage,
+    },
     /// A program of the command's own clocked on a target, over packets that are drawn.
     SelfRun {
         target: Target,
@@ -68,6 +77,7 @@ pub fn read_words(words: &[String]) -> Option<Command<'_>>
         [command, rest @ ..] if command.as_str() == "compile" => compile_in(rest),
         [command, rest @ ..] if command.as_str() == "exec" => exec_in(rest),
         [command, rest @ ..] if command.as_str() == "watch" => watch_in(rest),
+        [command, rest @ ..] if command.as_str() == "probe" => probe_in(rest),
         [command, rest @ ..] if command.as_str() == "selfrun" => selfrun_in(rest),
         _ => None,
     }
@@ -146,6 +156,23 @@ fn watch_in(words: &[String]) -> Option<Command<'_>>
     }
 }
 
+fn probe_in(words: &[String]) -> Option<Command<'_>>
+    ensures { option_map command_in result ≡ probe_of (texts_of words.entry.now) }
+{
+    match words {
+        [config, trace, stage] if !config.is_empty() && !trace.is_empty() => {
+            let number = number_in(stage.as_str(), 1, MOST_STAGE)?;
+            let files = ConfigFiles {
+                config: config.as_str(),
+                trace: trace.as_str(),
+            };
+            let stage = Stage { number };
+            Some(Command::Probe { files, stage })
+        }
+        _ => None,
+    }
+}
+
 fn selfrun_in(words: &[String]) -> Option<Command<'_>>
     ensures { option_map command_in result ≡ selfrun_of (texts_of words.entry.now) }
 {
@@ -166,7 +193,8 @@ fn selfrun_in(words: &[String]) -> Option<Command<'_>>
 
 // The number from `low` to `high` that a text writes, without a sign and leading zeros.
 fn number_in(text: &str, low: u32, high: u32) -> Option<u32>
-    ensures { result ≡ number_within low high text.now }
+    ensures number { result ≡ number_within low high text.now }
+    ensures within { IfSome result (λ number. (low ≤ number) × (number ≤ high)) }
 {
     let number = read_count(text.as_bytes())?;
     let mut digits = Buffer::new();

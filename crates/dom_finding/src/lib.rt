@@ -8,6 +8,7 @@ mod reading;
 mod refusals;
 mod selfrun;
 mod source;
+mod stage;
 mod wanted;
 
 pub use command::{Command, ConfigFiles, Files, read_words};
@@ -16,4 +17,5 @@ pub use reading::{Stop, config_file, packets_of, program_file, text_in, trace_fi
 pub use refusals::Refusal;
 pub use selfrun::own_program;
 pub use source::{compile_stop, program_in};
+pub use stage::Stage;
 pub use wanted::WantedFile;

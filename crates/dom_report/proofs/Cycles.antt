@@ -9,7 +9,7 @@ use Rattle.banzai_machine.specs.State.{LeavesAs, MachineForm}
 use Rattle.dom_report.proofs.Parts.{appended-appended, idles, part_after, part_before}
 use Rattle.dom_report.specs.Clocking.{ClockedOver, Cycle, StoppedIn, after_cycle, after_cycles, after_entries, cycle_of, cycles_from, bytes_over}
 
-appended-none : (held : Option (List ℕ)) → appended held [] ≡ held
+pub appended-none : (held : Option (List ℕ)) → appended held [] ≡ held
 appended-none None = refl
 appended-none (Some h) = ap Some (append-nil h)
 

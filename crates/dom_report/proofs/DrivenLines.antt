@@ -9,7 +9,7 @@ use Rattle.banzai_config.specs.Action.{Entry, acts}
 use Rattle.banzai_config.specs.Parts.{PartsForm}
 use Rattle.banzai_machine.specs.Pipe.{clocked, emitted, entered, leaves_with, pipe, shown}
 use Rattle.banzai_machine.specs.State.{MachineForm, Stands}
-use Rattle.dom_report.specs.Clocking.{Cycle, StoppedIn, after_cycle, after_cycles, after_entries, bytes_over, cycles_from}
+use Rattle.dom_report.specs.Clocking.{Cycle, StoppedIn, after_cycle, after_cycles, after_entries, bytes_over, cycles_from, left_over}
 use Rattle.dom_report.specs.Driving.{StopsAtLine}
 use Rattle.dom_report.specs.Report.{cycle_line, packet_lines}
 use Rattle.dom_report.proofs.Cycles.{stopped_part}
@@ -30,11 +30,7 @@ module _ (hash : Hash) where
   row_after_entries m [] = refl
   row_after_entries m (x ∷ xs) = row_after_entries (after_cycle hash m x) xs
 
-  -- what leaves over entries
-  abbrev pub left_over : MachineForm → List Entry → List Entry
-  left_over m entries = map (shown m.config) (left (acts hash) clocked m.config.stages m.row (map (entered m.config) entries))
-
-  lines_over : (lines : Legend) (m : MachineForm) (number : ℕ) (entries : List Entry) → bytes_over line_bytes same_lines lines (cycles_from hash m number entries) ≡ packet_lines number (left_over m entries)
+  lines_over : (lines : Legend) (m : MachineForm) (number : ℕ) (entries : List Entry) → bytes_over line_bytes same_lines lines (cycles_from hash m number entries) ≡ packet_lines number (left_over hash m entries)
   lines_over lines m number [] = refl
   lines_over lines m number (x ∷ xs) = ap (λ l. cycle_line number (leaves_with hash m.config m.row x) ++ l) (lines_over lines (after_cycle hash m x) (number + 1) xs)
 
@@ -44,12 +40,12 @@ module _ (hash : Hash) where
 
   -- what leaves in the cycle behind some
   pub left_at : (m : MachineForm) (xs : List Entry) (x : Entry) (ys : List Entry)
-      → slice_index_or (left_over m (xs ++ x ∷ ys)) (length xs) None ≡ leaves_with hash (after_entries hash m xs).config (after_entries hash m xs).row x
+      → slice_index_or (left_over hash m (xs ++ x ∷ ys)) (length xs) None ≡ leaves_with hash (after_entries hash m xs).config (after_entries hash m xs).row x
   left_at m [] x ys = refl
   left_at m (z ∷ zs) x ys = left_at (after_cycle hash m z) zs x ys
 
   module _ (m : MachineForm) (start : Stands hash [] m) where
-    pub left_is_emitted : (entries : List Entry) → left_over m entries ≡ emitted hash m.config entries
+    pub left_is_emitted : (entries : List Entry) → left_over hash m entries ≡ emitted hash m.config entries
     left_is_emitted entries = ap (λ r. map (shown m.config) (left (acts hash) clocked m.config.stages r (map (entered m.config) entries))) start
 
     -- from its beginning, the machine stands at the entries
@@ -78,7 +74,7 @@ module _ (hash : Hash) where
           packet = told.0;
           leaves =
               ap (λ (p : PartsForm). slice_index_or (emitted hash p entries) n None) (sym config_is)
-              ∙ ap (λ l. slice_index_or l n None) (sym (left_is_emitted entries)) ∙ ap (λ l. slice_index_or (left_over m l) n None) stop.entries_are
+              ∙ ap (λ l. slice_index_or l n None) (sym (left_is_emitted entries)) ∙ ap (λ l. slice_index_or (left_over hash m l) n None) stop.entries_are
               ∙ left_at m stop.before stop.entry stop.behind ∙ told.1;
           part =
               subst (λ (l : List ℕ). IsPart (appended h (packet_lines 0 (emitted hash m'.config (take n entries)))) h' l) (line_is ∙ ap (cycle_line n) told.1)

@@ -6,8 +6,10 @@ pub mod DrivenLines
 pub mod InTurn
 pub mod Packets
 pub mod Parts
+pub mod ProbeEnd
 pub mod Reports
 pub mod Summaries
+pub mod TappedRuns
 pub mod WatchEnd
 pub mod WatchParts
 pub mod Watched

@@ -13,11 +13,11 @@ use Rattle.banzai_machine.specs.Pipe.{drain, emitted, leaves_with, pipe}
 use Rattle.banzai_machine.specs.State.{MachineForm, Stands}
 use Rattle.dom_report.specs.declared.drawing.Folding.{Folding}
 use Rattle.dom_report.specs.declared.selfrun.Summary.{Summary}
-use Rattle.dom_report.specs.Clocking.{Cycle, after_cycle, after_cycles, after_entries, cycles_from}
+use Rattle.dom_report.specs.Clocking.{Cycle, after_cycle, after_cycles, after_entries, cycles_from, left_over}
 use Rattle.dom_report.specs.Folding.{fold_left}
 use Rattle.dom_report.specs.SelfRun.{drawn, fold_of, folded, next_draw, packet_drawn, summary_over, total_of}
 use Rattle.dom_report.proofs.Draws.{fields_length}
-use Rattle.dom_report.proofs.DrivenLines.{config_after, left_is_emitted, left_over, stands_after}
+use Rattle.dom_report.proofs.DrivenLines.{config_after, left_is_emitted, stands_after}
 
 -- The packets.
 

@@ -6,10 +6,10 @@ use Rattle.banzai_config.specs.Action.{Entry}
 use Rattle.banzai_config.specs.Parts.{PartsForm}
 use Rattle.banzai_machine.specs.Pipe.{pipe}
 use Rattle.banzai_machine.specs.State.{MachineForm}
-use Rattle.dom_report.specs.Clocking.{Cycle, after_cycle, after_entries, cycle_of, cycles_from}
+use Rattle.dom_report.specs.Clocking.{Cycle, after_cycle, after_entries, cycle_of, cycles_from, left_over}
 use Rattle.dom_report.specs.WatchReport.{IsCycleOf, at_beginning}
 use Rattle.dom_report.proofs.Cycles.{after_entries-append}
-use Rattle.dom_report.proofs.DrivenLines.{config_after, left_at, left_is_emitted, left_over, stands_after}
+use Rattle.dom_report.proofs.DrivenLines.{config_after, left_at, left_is_emitted, stands_after}
 
 module _ (hash : Hash) where
   pub cycles_count : (m : MachineForm) (number : ℕ) (entries : List Entry) → length (cycles_from hash m number entries) ≡ length entries

@@ -1,9 +1,10 @@
 -- A machine that is clocked over entries, and what is done after each of its cycles.
-use Rattle.std.specs.Prelude.{◌≡◌, ℕ, ◌+◌, ◌<◌, Option, Some, None, List, [], ◌∷◌, ◌++◌, length}
+use Rattle.std.specs.Prelude.{◌≡◌, ℕ, ◌+◌, ◌<◌, Option, Some, None, List, [], ◌∷◌, ◌++◌, length, map}
 use Rattle.dom_io.specs.Held.{IsPart, appended}
 use Rattle.dom_words.specs.State.{Hash}
-use Rattle.banzai_config.specs.Action.{Entry}
-use Rattle.banzai_machine.specs.Pipe.{cycle_with, leaves_with}
+use Rattle.pipeline_law.specs.Pipeline.{left as left_of}
+use Rattle.banzai_config.specs.Action.{Entry, acts}
+use Rattle.banzai_machine.specs.Pipe.{clocked, cycle_with, entered, leaves_with, shown}
 use Rattle.banzai_machine.specs.State.{MachineForm}
 use Rattle.banzai_machine.specs.Touches.{cycle_touches}
 
@@ -26,6 +27,10 @@ module _ (hash : Hash) where
   abbrev pub after_entries : MachineForm → List Entry → MachineForm
   after_entries m [] = m
   after_entries m (entry ∷ rest) = after_entries (after_cycle m entry) rest
+
+  -- what leaves in these cycles
+  abbrev pub left_over : MachineForm → List Entry → List Entry
+  left_over m entries = map (shown m.config) (left_of (acts hash) clocked m.config.stages m.row (map (entered m.config) entries))
 
   -- the cycle of an entry
   abbrev pub cycle_of : MachineForm → ℕ → Entry → Cycle

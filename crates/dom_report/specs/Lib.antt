@@ -1,9 +1,11 @@
 pub mod Clocking
 pub mod Driving
 pub mod Folding
+pub mod ProbeReport
 pub mod Report
 pub mod RunReport
 pub mod SelfRun
 pub mod SerialReport
+pub mod Tapping
 pub mod Turns
 pub mod WatchReport

@@ -9,13 +9,16 @@ mod each_cycle;
 mod entering;
 pub mod laws;
 mod moment;
+mod probe_report;
 mod run_report;
 mod selfrun;
 mod serial_report;
+mod tapping;
 mod text;
 mod watch_report;
 
 pub use driving::drive;
+pub use probe_report::put_probe_report;
 pub use run_report::put_run_report;
 pub use selfrun::{Summary, run_drawn, summary_text};
 pub use serial_report::put_serial_report;

@@ -90,12 +90,14 @@ fn put_end<T: AtomTemplate, const DEPTH: usize, const SL: usize, const SF: usize
     lines.done(sink, packets, Some(cycles))
 }
 
-// The lines of the state words that are not 0.
-fn put_words<T: AtomTemplate, const DEPTH: usize, const SL: usize, const SF: usize, S: Sink>(
-    machine: &Machine<T, DEPTH, SL, SF>,
-    lines: &mut Lines,
-    sink: &mut S,
-) -> Result<(), SinkFault>
+/// The lines of the state words that are not 0.
+pub(crate) fn put_words<
+    T: AtomTemplate,
+    const DEPTH: usize,
+    const SL: usize,
+    const SF: usize,
+    S: Sink,
+>(machine: &Machine<T, DEPTH, SL, SF>, lines: &mut Lines, sink: &mut S) -> Result<(), SinkFault>
     requires { lines.old.arrays ≡ array_names machine.now.config }
     ensures bytes { Puts (S.held sink.old) (S.held sink.new) (joined (state_lines lines.old.arrays machine.now.row.state)) result }
     ensures cause { HasCause (S.faults sink.old) (S.faults sink.new) result }
@@ -133,12 +135,14 @@ fn put_array<T: AtomTemplate, const DEPTH: usize, const SL: usize, const SF: usi
     Ok(())
 }
 
-// The lines of the stages of the arrays that an atom holds.
-fn put_places<T: AtomTemplate, const DEPTH: usize, const SL: usize, const SF: usize, S: Sink>(
-    machine: &Machine<T, DEPTH, SL, SF>,
-    lines: &mut Lines,
-    sink: &mut S,
-) -> Result<(), SinkFault>
+/// The lines of the stages of the arrays that an atom holds.
+pub(crate) fn put_places<
+    T: AtomTemplate,
+    const DEPTH: usize,
+    const SL: usize,
+    const SF: usize,
+    S: Sink,
+>(machine: &Machine<T, DEPTH, SL, SF>, lines: &mut Lines, sink: &mut S) -> Result<(), SinkFault>
     requires { lines.old.arrays ≡ array_names machine.now.config }
     ensures bytes { Puts (S.held sink.old) (S.held sink.new) (joined (places_from machine.now.config.stages 0 lines.old.arrays)) result }
     ensures cause { HasCause (S.faults sink.old) (S.faults sink.new) result }

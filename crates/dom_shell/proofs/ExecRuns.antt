@@ -11,6 +11,7 @@ use Rattle.banzai_config.proofs.TargetNames.{target_by_name}
 use Rattle.config_text.specs.Fronts.{text_of}
 use Rattle.dom_compile.specs.Answer.{IsCompileAnswer}
 use Rattle.dom_compile.proofs.OneAnswer.{one_compile_answer}
+use Rattle.probe_taps.specs.Taps.{TapForm}
 use Rattle.dom_finding.specs.Command.{Command, command_of, compile, configs_named, exec, files_named, is_file, run}
 use Rattle.dom_finding.specs.Configs.{ConfigForm, config_form}
 use Rattle.dom_finding.specs.Finding.{Ask, Finding, Gives, IsFoundAfter, IsNext, IsTold, Job, Next, after_answer, ask, clocked, config_file, ends, found, over, program_file, reads, trace_file, written}
@@ -127,8 +128,8 @@ GoesOver Holds None (Some d) = ⊥
 GoesOver Holds (Some c) None = ⊥
 GoesOver Holds (Some c) (Some d) = (f : Finding) → IsFoundAfter Holds c [] f → IsFoundAfter Holds d [] f
 
-module _ (hash : Hash) (Holds : List ℕ → List ℕ → Type 0) (words others : List (List ℕ)) where
-  answers_over : (c d : Option Command) → command_of words ≡ c → command_of others ≡ d → GoesOver Holds c d → (status : ℕ) (bytes : List ℕ) → IsAnswer hash Holds words status bytes → IsAnswer hash Holds others status bytes
+module _ (hash : Hash) (taps : List TapForm) (Holds : List ℕ → List ℕ → Type 0) (words others : List (List ℕ)) where
+  answers_over : (c d : Option Command) → command_of words ≡ c → command_of others ≡ d → GoesOver Holds c d → (status : ℕ) (bytes : List ℕ) → IsAnswer hash taps Holds words status bytes → IsAnswer hash taps Holds others status bytes
   answers_over None None c_is d_is goes status bytes (no_command e s b) = no_command d_is s b
   answers_over None None c_is d_is goes status bytes (some_command c f e x s b) = absurd (not_none c (sym c_is ∙ e))
   answers_over None (Some d) c_is d_is goes status bytes x = absurd goes
@@ -169,7 +170,7 @@ refused_some refusal.TraceLimit e = absurd (omega arith)
 refused_some (refusal.Trace fault) e = absurd (omega arith)
 
 -- what `compile` has found, where it has status 0: the program's text, its parts, and their text
-record Put (hash : Hash) (files : List ℕ → Option (List ℕ)) (t : Target) (program bytes : List ℕ) : Type 0 where
+record Put (hash : Hash) (taps : List TapForm) (files : List ℕ → Option (List ℕ)) (t : Target) (program bytes : List ℕ) : Type 0 where
   named : is_file program ≡ true
   text : List ℕ
   told : IsTold files program text
@@ -178,9 +179,9 @@ record Put (hash : Hash) (files : List ℕ → Option (List ℕ)) (t : Target) (
   answer : IsCompileAnswer (shape_of t) text (Ok parts)
   put : bytes ≡ text_of t parts
 
-module _ (hash : Hash) (files : List ℕ → Option (List ℕ)) (t : Target) (program bytes : List ℕ) (named : is_file program ≡ true) where
-  put_of_text : (text : List ℕ) → IsTold files program text → length text ≤ 65536 → (f : Finding) → IsFoundAfter (IsTold files) (compile t program) (text ∷ []) f → 0 ≡ status_of f → bytes ≡ bytes_of hash f
-      → Put hash files t program bytes
+module _ (hash : Hash) (taps : List TapForm) (files : List ℕ → Option (List ℕ)) (t : Target) (program bytes : List ℕ) (named : is_file program ≡ true) where
+  put_of_text : (text : List ℕ) → IsTold files program text → length text ≤ 65536 → (f : Finding) → IsFoundAfter (IsTold files) (compile t program) (text ∷ []) f → 0 ≡ status_of f → bytes ≡ bytes_of hash taps f
+      → Put hash taps files t program bytes
   put_of_text text told small (Err r) x zero b = absurd (refused_some r zero)
   put_of_text text told small (Ok job) (over a u (Ok parts, is, e) h l d) zero b = absurd (not_found (Ok (written (text_of t parts))) a (sym e))
   put_of_text text told small (Ok job) (over a u (Err r, is, e) h l d) zero b = absurd (not_found (Err (refused_compile r)) a (sym e))
@@ -190,26 +191,26 @@ module _ (hash : Hash) (files : List ℕ → Option (List ℕ)) (t : Target) (pr
   put_of_text text told small (Ok job) (ends (Ok parts, is, e)) zero b =
       let d : ◌≡◌ {A = Next} (found (Ok job)) (found (Ok (written (text_of t parts)))) = e in
       let same : job ≡ written (text_of t parts) = cc in
-      record { named = named; text = text; told = told; small = small; parts = parts; answer = is; put = b ∙ ap (λ (j : Job). bytes_of hash (Ok j)) same }
+      record { named = named; text = text; told = told; small = small; parts = parts; answer = is; put = b ∙ ap (λ (j : Job). bytes_of hash taps (Ok j)) same }
 
-  put_of_found : (f : Finding) → IsFoundAfter (IsTold files) (compile t program) [] f → 0 ≡ status_of f → bytes ≡ bytes_of hash f → Put hash files t program bytes
+  put_of_found : (f : Finding) → IsFoundAfter (IsTold files) (compile t program) [] f → 0 ≡ status_of f → bytes ≡ bytes_of hash taps f → Put hash taps files t program bytes
   put_of_found f (ends x) zero b = absurd (not_found f (program_file program) x)
   put_of_found f (over a u x h l e) zero b = absurd (refused_some a.over (zero ∙ ap status_of e))
   put_of_found f (reads a u x h l rest) zero b =
       let a_is : a ≡ program_file program = same_ask a (program_file program) x in
       put_of_text u (subst (λ (z : Ask). IsTold files z.name u) a_is h) (subst (λ (z : Ask). length u ≤ z.most) a_is l) f rest zero b
 
-put_of : (hash : Hash) (files : List ℕ → Option (List ℕ)) (t : Target) (program bytes : List ℕ) (p : Bool) → is_file program ≡ p → IsResult hash (compile_words t program) files 0 bytes → Put hash files t program bytes
-put_of hash files t program bytes p is (no_command e s b) = absurd (omega arith)
-put_of hash files t program bytes false is (some_command c f e x s b) =
+put_of : (hash : Hash) (taps : List TapForm) (files : List ℕ → Option (List ℕ)) (t : Target) (program bytes : List ℕ) (p : Bool) → is_file program ≡ p → IsResult hash taps (compile_words t program) files 0 bytes → Put hash taps files t program bytes
+put_of hash taps files t program bytes p is (no_command e s b) = absurd (omega arith)
+put_of hash taps files t program bytes false is (some_command c f e x s b) =
     absurd (not_none c (sym (compile_command t program ∙ ap (λ (q : Bool). compile_if q t program) is) ∙ e))
-put_of hash files t program bytes true is (some_command c f e x s b) =
+put_of hash taps files t program bytes true is (some_command c f e x s b) =
     let same : c ≡ compile t program = some_inside c (compile t program) (sym e ∙ compile_command t program ∙ ap (λ (q : Bool). compile_if q t program) is) in
-    put_of_found hash files t program bytes is f (subst (λ (z : Command). IsFoundAfter (IsTold files) z [] f) same x) s b
+    put_of_found hash taps files t program bytes is f (subst (λ (z : Command). IsFoundAfter (IsTold files) z [] f) same x) s b
 
-module _ (hash : Hash) (files : List ℕ → Option (List ℕ)) (t : Target) (program config trace : List ℕ) (holds : HoldsCompiled hash files t program config) where
-  abbrev compiled : Put hash files t program holds.text
-  compiled = put_of hash files t program holds.text (is_file program) refl holds.put
+module _ (hash : Hash) (taps : List TapForm) (files : List ℕ → Option (List ℕ)) (t : Target) (program config trace : List ℕ) (holds : HoldsCompiled hash files t program config) where
+  abbrev compiled : Put hash holds.taps files t program holds.text
+  compiled = put_of hash holds.taps files t program holds.text (is_file program) refl holds.put
 
   held_parts : IsTold files config (text_of t compiled.parts)
   held_parts = holds.held ∙ ap Some compiled.put
@@ -222,18 +223,18 @@ module _ (hash : Hash) (files : List ℕ → Option (List ℕ)) (t : Target) (pr
       ap (λ (p : Bool). if p && is_file trace then Some (exec (configs_named config trace)) else None) holds.named
       ∙ ap (λ (x : Bool). if x then Some (exec (configs_named config trace)) else None) is
 
-  pub exec_answers : (status : ℕ) (bytes : List ℕ) → IsResult hash (run_words t program trace) files status bytes → IsResult hash (exec_words config trace) files status bytes
+  pub exec_answers : (status : ℕ) (bytes : List ℕ) → IsResult hash taps (run_words t program trace) files status bytes → IsResult hash taps (exec_words config trace) files status bytes
   exec_answers = by_trace (is_file trace) refl
     where
-      by_trace : (q : Bool) → is_file trace ≡ q → (status : ℕ) (bytes : List ℕ) → IsResult hash (run_words t program trace) files status bytes → IsResult hash (exec_words config trace) files status bytes
-      by_trace true is = answers_over hash (IsTold files) (run_words t program trace) (exec_words config trace) (Some (run t (files_named program trace))) (Some (exec (configs_named config trace)))
+      by_trace : (q : Bool) → is_file trace ≡ q → (status : ℕ) (bytes : List ℕ) → IsResult hash taps (run_words t program trace) files status bytes → IsResult hash taps (exec_words config trace) files status bytes
+      by_trace true is = answers_over hash taps (IsTold files) (run_words t program trace) (exec_words config trace) (Some (run t (files_named program trace))) (Some (exec (configs_named config trace)))
           (run_is true is) (exec_is true is) (exec_finds t program config trace compiled.text compiled.parts compiled.answer files compiled.told compiled.small held_parts)
-      by_trace false is = answers_over hash (IsTold files) (run_words t program trace) (exec_words config trace) None None (run_is false is) (exec_is false is) tt
+      by_trace false is = answers_over hash taps (IsTold files) (run_words t program trace) (exec_words config trace) None None (run_is false is) (exec_is false is) tt
 
-  pub run_answers : (status : ℕ) (bytes : List ℕ) → IsResult hash (exec_words config trace) files status bytes → IsResult hash (run_words t program trace) files status bytes
+  pub run_answers : (status : ℕ) (bytes : List ℕ) → IsResult hash taps (exec_words config trace) files status bytes → IsResult hash taps (run_words t program trace) files status bytes
   run_answers = by_trace (is_file trace) refl
     where
-      by_trace : (q : Bool) → is_file trace ≡ q → (status : ℕ) (bytes : List ℕ) → IsResult hash (exec_words config trace) files status bytes → IsResult hash (run_words t program trace) files status bytes
-      by_trace true is = answers_over hash (IsTold files) (exec_words config trace) (run_words t program trace) (Some (exec (configs_named config trace))) (Some (run t (files_named program trace)))
+      by_trace : (q : Bool) → is_file trace ≡ q → (status : ℕ) (bytes : List ℕ) → IsResult hash taps (exec_words config trace) files status bytes → IsResult hash taps (run_words t program trace) files status bytes
+      by_trace true is = answers_over hash taps (IsTold files) (exec_words config trace) (run_words t program trace) (Some (exec (configs_named config trace))) (Some (run t (files_named program trace)))
           (exec_is true is) (run_is true is) (run_finds t program config trace compiled.text compiled.parts compiled.answer files compiled.told compiled.small held_parts)
-      by_trace false is = answers_over hash (IsTold files) (exec_words config trace) (run_words t program trace) None None (exec_is false is) (run_is false is) tt
+      by_trace false is = answers_over hash taps (IsTold files) (exec_words config trace) (run_words t program trace) None None (exec_is false is) (run_is false is) tt

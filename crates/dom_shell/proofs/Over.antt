@@ -8,6 +8,7 @@ use Rattle.banzai_config.specs.Parts.{PartsForm}
 use Rattle.banzai_config.specs.Targets.{shape_of}
 use Rattle.banzai_config.specs.declared.target.Target.{Target}
 use Rattle.config_text.specs.Fronts.{TextOf}
+use Rattle.probe_taps.specs.Taps.{TapForm}
 use Rattle.dom_finding.specs.Command.{ConfigNames}
 use Rattle.dom_finding.specs.Configs.{ConfigForm, ConfigRefusal, IsConfig, config_form}
 use Rattle.dom_finding.specs.Finding.{IsFoundAfter, IsNext, MayHold, Packets, ask, config_file, found, trace_file}
@@ -85,24 +86,24 @@ found_over w names text files config own packets same is =
 
 -- The reads.
 
-module _ (w : ConfigTask) (names : ConfigNames) (hash : Hash) (files : List ℕ → Option (List ℕ)) where
+module _ (w : ConfigTask) (names : ConfigNames) (hash : Hash) (taps : List TapForm) (files : List ℕ → Option (List ℕ)) where
   -- the configuration could not be read
   pub unread_config : (before now : List ℕ → ℕ) (sent : Sent) (stop : Stop) → FileStop files before now (config_file names.config) stop → AreStopped stop sent
-      → IsEndAfter (command_over w names) [] (call_of hash files before now sent)
+      → IsEndAfter (command_over w names) [] (call_of hash taps files before now sent)
   unread_config before now sent stop is stopped =
-      stop_end (command_over w names) [] (call_of hash files before now sent) stop
+      stop_end (command_over w names) [] (call_of hash taps files before now sent) stop
       (file_stops (command_over w names) [] files before now (config_file names.config) stop (first w names) is) stopped
 
   module _ (config : List ℕ) (is_text : IsText files (config_file names.config) config) where
     -- it is none
     pub no_config : (before now : List ℕ → ℕ) (sent : Sent) (stop : Stop) → AreKept before now → TextStop (IsConfig config) refused_config stop → AreStopped stop sent
-        → IsEndAfter (command_over w names) [] (call_of hash files before now sent)
+        → IsEndAfter (command_over w names) [] (call_of hash taps files before now sent)
     no_config before now sent stop kept is stopped =
-        stop_end (command_over w names) [] (call_of hash files before now sent) stop
+        stop_end (command_over w names) [] (call_of hash taps files before now sent) stop
         (read_on (command_over w names) [] files before now (config_file names.config) config stop (first w names) is_text.0 is_text.1 (config_stops w names files config before now stop kept is)) stopped
 
     -- what is behind its read
     pub behind_config : (mid : List ℕ → Option (List ℕ)) (before then now : List ℕ → ℕ) (sent : Sent) → ((n : List ℕ) → mid n ≡ files n) → AreKept before then
-        → IsEndAfter (command_over w names) (config ∷ []) (call_of hash mid then now sent) → IsEndAfter (command_over w names) [] (call_of hash files before now sent)
+        → IsEndAfter (command_over w names) (config ∷ []) (call_of hash taps mid then now sent) → IsEndAfter (command_over w names) [] (call_of hash taps files before now sent)
     behind_config mid before then now sent same kept end =
-        end_read_on (command_over w names) [] (config_file names.config) config hash files mid before then now sent (first w names) is_text.0 is_text.1 same kept end
+        end_read_on (command_over w names) [] (config_file names.config) config hash taps files mid before then now sent (first w names) is_text.0 is_text.1 same kept end

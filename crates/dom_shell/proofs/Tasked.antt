@@ -3,6 +3,7 @@ use Rattle.std.proofs.Common.{◌≡◌, ℕ, ◌≤◌, List, [], ◌∷◌, le
 use Rattle.dom_words.specs.State.{Hash}
 use Rattle.banzai_config.specs.declared.target.Target.{Target}
 use Rattle.dom_compile.specs.Programs.{most_program}
+use Rattle.probe_taps.specs.Taps.{TapForm}
 use Rattle.dom_finding.specs.Finding.{IsNext, ask, program_file}
 use Rattle.dom_finding.specs.Stops.{AreKept, FileStop, IsText}
 use Rattle.dom_finding.specs.declared.reading.Stop.{Stop}
@@ -42,17 +43,17 @@ program_alone (task.Run trace) text on = refl
 program_alone (task.SelfRun seed count) text on = absurd on
 program_alone (task.Config what parts trace) text on = absurd on
 
-module _ (target : Target) (name : List ℕ) (t : Task) (on : IsOnProgram t) (hash : Hash) (files : List ℕ → Option (List ℕ)) where
+module _ (target : Target) (name : List ℕ) (t : Task) (on : IsOnProgram t) (hash : Hash) (taps : List TapForm) (files : List ℕ → Option (List ℕ)) where
   -- what is behind the read of the program
   pub behind_read : (text : List ℕ) (mid : List ℕ → Option (List ℕ)) (before then now : List ℕ → ℕ) (sent : Sent) → IsText files (program_file name) text → ((n : List ℕ) → mid n ≡ files n) → AreKept before then
-      → IsEndAfter (command_for target name t) (texts_for t text) (call_of hash mid then now sent) → IsEndAfter (command_for target name t) [] (call_of hash files before now sent)
+      → IsEndAfter (command_for target name t) (texts_for t text) (call_of hash taps mid then now sent) → IsEndAfter (command_for target name t) [] (call_of hash taps files before now sent)
   behind_read text mid before then now sent is same kept end =
-      end_read_on (command_for target name t) [] (program_file name) text hash files mid before then now sent (program_first target name t on) is.0 is.1 same kept
-      (subst (λ (texts : List (List ℕ)). IsEndAfter (command_for target name t) texts (call_of hash mid then now sent)) (program_alone t text on) end)
+      end_read_on (command_for target name t) [] (program_file name) text hash taps files mid before then now sent (program_first target name t on) is.0 is.1 same kept
+      (subst (λ (texts : List (List ℕ)). IsEndAfter (command_for target name t) texts (call_of hash taps mid then now sent)) (program_alone t text on) end)
 
   -- the program could not be read
   pub unread_end : (before now : List ℕ → ℕ) (sent : Sent) (stop : Stop) → FileStop files before now (program_file name) stop → AreStopped stop sent
-      → IsEndAfter (command_for target name t) [] (call_of hash files before now sent)
+      → IsEndAfter (command_for target name t) [] (call_of hash taps files before now sent)
   unread_end before now sent stop is stopped =
-      stop_end (command_for target name t) [] (call_of hash files before now sent) stop
+      stop_end (command_for target name t) [] (call_of hash taps files before now sent) stop
       (file_stops (command_for target name t) [] files before now (program_file name) stop (program_first target name t on) is) stopped

@@ -1,11 +1,11 @@
 -- What is to be done for a target.
-use Rattle.std.specs.Prelude.{⊤, ◌≡◌, ℕ, ◌≤◌, List, [], ◌∷◌, length}
+use Rattle.std.specs.Prelude.{⊤, ◌≡◌, ℕ, ◌≤◌, Bool, true, List, [], ◌∷◌, length, nat_le}
 use Rattle.banzai_config.specs.Parts.{PartsForm, parts_form}
 use Rattle.banzai_config.specs.declared.target.Target.{Target}
 use Rattle.config_text.specs.Fronts.{TextOf}
 use Rattle.dom_compile.specs.Programs.{most_program}
-use Rattle.dom_finding.specs.Command.{Command, ConfigNames, compile, configs_named, exec, files_named, run, selfrun, watch}
-use Rattle.dom_finding.specs.Finding.{Job, Packets, clocked, watched}
+use Rattle.dom_finding.specs.Command.{Command, ConfigNames, compile, configs_named, exec, files_named, probe, run, selfrun, watch}
+use Rattle.dom_finding.specs.Finding.{Job, Packets, clocked, tapped, watched}
 use Rattle.dom_finding.specs.OwnProgram.{own_program}
 use Rattle.dom_shell.specs.declared.commands.task.ConfigTask.{ConfigTask}
 use Rattle.dom_shell.specs.declared.commands.task.ConfigTask.TheVariants as config
@@ -16,10 +16,18 @@ use Rattle.dom_shell.specs.declared.commands.task.Task.TheVariants as task
 abbrev pub command_over : ConfigTask → ConfigNames → Command
 command_over config.Exec names = exec names
 command_over config.Watch names = watch names
+command_over (config.Probe stage) names = probe names stage.number
 
 abbrev pub job_over : ConfigTask → PartsForm → Packets → Job
 job_over config.Exec parts packets = clocked parts packets
 job_over config.Watch parts packets = watched parts packets
+job_over (config.Probe stage) parts packets = tapped stage.number parts packets
+
+-- the stage that it names, if it names one, is one of so many
+abbrev pub is_within : ConfigTask → ℕ → Bool
+is_within config.Exec depth = true
+is_within config.Watch depth = true
+is_within (config.Probe stage) depth = nat_le stage.number depth
 
 -- the command that asks for a task, where the first file has this name
 abbrev pub command_for : Target → List ℕ → Task → Command

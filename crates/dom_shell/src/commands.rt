@@ -2,6 +2,7 @@ mod clock;
 mod compile;
 mod config;
 mod over;
+mod probe;
 mod program;
 mod run;
 mod selfrun;
@@ -10,6 +11,7 @@ mod targets;
 mod task;
 
 ghost use Rattle.std.specs.Prelude.{◌≡◌, ℕ, List, []};
+ghost use Rattle.probe_taps.specs.Taps.{tap_forms};
 ghost use Rattle.dom_finding.specs.CommandForm.{command_in};
 ghost use Rattle.dom_shell.specs.Ends.{IsEndAfter, call_of, sent_as};
 
@@ -21,6 +23,7 @@ use crate::commands::task::{ConfigTask, Task};
 use dom_finding::{Command, own_program};
 use dom_io::{Shelf, Sink};
 use dom_words::HashUnits;
+use probe_taps::Tap;
 use std::alloc::Global;
 
 /// Does what a command asks for, and answers the status of the call.
@@ -30,18 +33,28 @@ pub(crate) fn perform<F: Shelf, S: Sink, H: HashUnits>(
     shelf: &mut F,
     sink: &mut S,
     hash: &H,
+    taps: Vec<Box<dyn Tap>>,
 ) -> u8
-    ensures end { IsEndAfter (command_in command.entry) [] (call_of (H.meaning hash.now) (F.content shelf.old) (F.faults shelf.old) (F.faults shelf.new) (sent_as result (S.held sink.old) (S.held sink.new) (S.faults sink.old) (S.faults sink.new))) }
+    ensures end { IsEndAfter (command_in command.entry) [] (call_of (H.meaning hash.now) (tap_forms (λ b. form b) taps.items) (F.content shelf.old) (F.faults shelf.old) (F.faults shelf.new) (sent_as result (S.held sink.old) (S.held sink.new) (S.faults sink.old) (S.faults sink.new))) }
     ensures files { (name : List ℕ) → F.content shelf.new name ≡ F.content shelf.old name }
 {
     match command {
         Command::Run { target, files } => {
             let task = Task::Run(files.trace);
-            with_program(alloc, target, task, files.program, shelf, sink, hash)
+            with_program(alloc, target, task, files.program, shelf, sink, hash, taps)
         }
         Command::Serial(files) => serial(alloc, files, shelf, sink, hash),
         Command::Compile { target, program } => {
-            with_program(alloc, target, Task::Compile, program, shelf, sink, hash)
+            with_program(
+                alloc,
+                target,
+                Task::Compile,
+                program,
+                shelf,
+                sink,
+                hash,
+                taps,
+            )
         }
         Command::SelfRun {
             target,
@@ -50,9 +63,17 @@ pub(crate) fn perform<F: Shelf, S: Sink, H: HashUnits>(
         } => {
             let task = Task::SelfRun { seed, count };
             let text = own_program(target).as_bytes();
-            on_target(alloc, target, task, text, shelf, sink, hash)
+            on_target(alloc, target, task, text, shelf, sink, hash, taps)
         }
-        Command::Exec(files) => with_config(alloc, ConfigTask::Exec, files, shelf, sink, hash),
-        Command::Watch(files) => with_config(alloc, ConfigTask::Watch, files, shelf, sink, hash),
+        Command::Exec(files) => {
+            with_config(alloc, ConfigTask::Exec, files, shelf, sink, hash, taps)
+        }
+        Command::Watch(files) => {
+            with_config(alloc, ConfigTask::Watch, files, shelf, sink, hash, taps)
+        }
+        Command::Probe { files, stage } => {
+            let what = ConfigTask::Probe(stage);
+            with_config(alloc, what, files, shelf, sink, hash, taps)
+        }
     }
 }

@@ -16,14 +16,15 @@ ghost use Rattle.dom_finding.specs.Configs.{IsConfig, config_form};
 ghost use Rattle.dom_finding.specs.Finding.{Packets, most_config};
 ghost use Rattle.dom_io.specs.Causes.{Rose};
 ghost use Rattle.dom_words.specs.State.{Hash, IsSmallHash};
+ghost use Rattle.probe_taps.specs.Taps.{TapForm};
 ghost use Rattle.trace_text.specs.Trace.{entries};
 ghost use Rattle.dom_shell.specs.Call.{IsResult, IsUnread};
 ghost use Rattle.dom_shell.specs.ExecIsRun.{HoldsCompiled, exec_words, run_words};
 ghost use Rattle.dom_shell.specs.RunIsSerial.{IsSerialMoment, IsSerialRun};
 
-/// Words and told files have one status and one text.
+/// Words, told files and taps have one status and one text.
 pub fn one_result()
-    ensures { (hash : Hash) (files : List ℕ → Option (List ℕ)) (words : List (List ℕ)) (status other : ℕ) (bytes others : List ℕ) → IsResult hash words files status bytes → IsResult hash words files other others → (status ≡ other) × (bytes ≡ others) }
+    ensures { (hash : Hash) (taps : List TapForm) (files : List ℕ → Option (List ℕ)) (words : List (List ℕ)) (status other : ℕ) (bytes others : List ℕ) → IsResult hash taps words files status bytes → IsResult hash taps words files other others → (status ≡ other) × (bytes ≡ others) }
 {}
 
 /// Where a shelf's counts of faults are 0 before and after, no file was unread (`reads`); where a sink's count is, it did not
@@ -60,6 +61,6 @@ pub fn compiled_text_is_a_configuration()
 /// `exec` on this file and a trace answers what `run TARGET PROGRAM` with the trace answers, with the same status and the
 /// same bytes (`exec`), and nothing else (`run`). No limit and no rule of `exec` comes between.
 pub fn exec_is_run()
-    ensures exec { (hash : Hash) (files : List ℕ → Option (List ℕ)) (target : Target) (program config trace : List ℕ) → HoldsCompiled hash files target program config → (status : ℕ) (bytes : List ℕ) → IsResult hash (run_words target program trace) files status bytes → IsResult hash (exec_words config trace) files status bytes }
-    ensures run { (hash : Hash) (files : List ℕ → Option (List ℕ)) (target : Target) (program config trace : List ℕ) → HoldsCompiled hash files target program config → (status : ℕ) (bytes : List ℕ) → IsResult hash (exec_words config trace) files status bytes → IsResult hash (run_words target program trace) files status bytes }
+    ensures exec { (hash : Hash) (taps : List TapForm) (files : List ℕ → Option (List ℕ)) (target : Target) (program config trace : List ℕ) → HoldsCompiled hash files target program config → (status : ℕ) (bytes : List ℕ) → IsResult hash taps (run_words target program trace) files status bytes → IsResult hash taps (exec_words config trace) files status bytes }
+    ensures run { (hash : Hash) (taps : List TapForm) (files : List ℕ → Option (List ℕ)) (target : Target) (program config trace : List ℕ) → HoldsCompiled hash files target program config → (status : ℕ) (bytes : List ℕ) → IsResult hash taps (exec_words config trace) files status bytes → IsResult hash taps (run_words target program trace) files status bytes }
 {}

@@ -4,6 +4,7 @@
 use dom_io::{DiskShelf, OutSink};
 use dom_shell::domino;
 use dom_words::FnvUnits;
+use probe_taps::{CountTap, Tap};
 use std::process::ExitCode;
 use std::{env, io};
 
@@ -41,11 +42,19 @@ fn main(rt: HostRuntime) -> ExitCode {
         Err(NoWords::Unreadable) => Vec::new(rt.alloc()),
         Err(NoWords::Memory) => return ExitCode::from(NO_MEMORY),
     };
+    let Ok(tap) = Box::new(rt.alloc(), CountTap::new()) else {
+        return ExitCode::from(NO_MEMORY);
+    };
+    let mut taps: Vec<Box<dyn Tap>> = Vec::new(rt.alloc());
+    if taps.push(tap).is_err() {
+        return ExitCode::from(NO_MEMORY);
+    }
     ExitCode::from(domino(
         rt.alloc(),
         words.as_slice(),
         &mut shelf,
         &mut sink,
         &FnvUnits,
+        taps,
     ))
 }

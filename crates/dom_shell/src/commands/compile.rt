@@ -8,6 +8,7 @@ ghost use Rattle.dom_compile.specs.Answer.{IsCompileAnswer};
 ghost use Rattle.dom_finding.specs.Command.{compile as compile_of};
 ghost use Rattle.dom_finding.specs.Refusals.{refused_compile};
 ghost use Rattle.dom_finding.specs.Stops.{TextStop};
+ghost use Rattle.probe_taps.specs.Taps.{TapForm};
 ghost use Rattle.dom_shell.specs.Ends.{IsEndAfter, call_of, sent_as};
 
 use crate::ending::{status_of, stopped};
@@ -33,7 +34,7 @@ pub(crate) fn compile_on<
     requires stateless { (1 ≤ SL) × (SL ≤ 65535) }
     requires stateful { (1 ≤ SF) × (SF ≤ 65535) }
     requires shape { shape_of target ≡ shape_with T.fits T.CONST_BITS DEPTH SL SF MUL }
-    ensures { (name : List ℕ) (hash : Hash) (files : List ℕ → Option (List ℕ)) (unread : List ℕ → ℕ) → IsEndAfter (compile_of target name) (text.now ∷ []) (call_of hash files unread unread (sent_as result (S.held sink.old) (S.held sink.new) (S.faults sink.old) (S.faults sink.new))) }
+    ensures { (name : List ℕ) (hash : Hash) (taps : List TapForm) (files : List ℕ → Option (List ℕ)) (unread : List ℕ → ℕ) → IsEndAfter (compile_of target name) (text.now ∷ []) (call_of hash taps files unread unread (sent_as result (S.held sink.old) (S.held sink.new) (S.faults sink.old) (S.faults sink.new))) }
 {
     match configured::<T, DEPTH, SL, SF, MUL>(alloc, target, text) {
         Ok(written) => status_of(put_text(written.as_slice(), sink)),

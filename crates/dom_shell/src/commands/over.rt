@@ -1,4 +1,4 @@
-ghost use Rattle.std.specs.Prelude.{◌≡◌, ℕ, ◌≤◌, List, [], ◌∷◌, IfOk, IfErr, OnOk, Ok};
+ghost use Rattle.std.specs.Prelude.{◌≡◌, ℕ, ◌≤◌, true, List, [], ◌∷◌, IfOk, IfErr, OnOk, Ok};
 ghost use Rattle.banzai_config.specs.Checked.{shape_with};
 ghost use Rattle.banzai_config.specs.Parts.{parts_form};
 ghost use Rattle.banzai_config.specs.Targets.{shape_of};
@@ -6,22 +6,23 @@ ghost use Rattle.config_text.specs.Fronts.{TextOf};
 ghost use Rattle.dom_finding.specs.Command.{configs_named};
 ghost use Rattle.dom_finding.specs.Finding.{IsFoundAfter, MayHold};
 ghost use Rattle.dom_finding.specs.Stops.{AreKept, StopAfter};
-ghost use Rattle.dom_io.specs.Causes.{HasCause};
-ghost use Rattle.dom_io.specs.Held.{Puts};
+ghost use Rattle.probe_taps.specs.Taps.{tap_forms};
 ghost use Rattle.dom_shell.specs.Call.{report_of};
-ghost use Rattle.dom_shell.specs.Ends.{IsEndAfter, call_of, sent_as};
+ghost use Rattle.dom_shell.specs.Ends.{IsEndAfter, IsTriedWithMemory, call_of, sent_as};
 ghost use Rattle.dom_shell.specs.RunSetUp.{IsRunSetUp};
-ghost use Rattle.dom_shell.specs.Tasks.{command_over, job_over};
+ghost use Rattle.dom_shell.specs.Tasks.{command_over, is_within, job_over};
 
 use crate::commands::clock::{Prepared, traced};
+use crate::commands::probe::put_probe;
 use crate::commands::task::ConfigTask;
 use crate::ending::{status_of, stopped};
 use atom_traits::AtomTemplate;
 use banzai_config::{Config, Parts, Target};
-use dom_finding::{Stop, config_stop};
-use dom_io::{Shelf, Sink, SinkFault};
+use dom_finding::{Refusal, Stop, config_stop};
+use dom_io::{Shelf, Sink};
 use dom_report::{put_run_report, put_watch_report};
 use dom_words::HashUnits;
+use probe_taps::Tap;
 use std::alloc::Global;
 
 /// Clocks the configuration with these parts over the trace in the file of this name, if it is legal for a target with these
@@ -44,24 +45,22 @@ pub(crate) fn over_on<
     shelf: &mut F,
     sink: &mut S,
     hash: &H,
+    taps: Vec<Box<dyn Tap>>,
 ) -> u8
     requires depth { (1 ≤ DEPTH) × (DEPTH ≤ 65535) }
     requires stateless { (1 ≤ SL) × (SL ≤ 65535) }
     requires stateful { (1 ≤ SF) × (SF ≤ 65535) }
     requires shape { shape_of target ≡ shape_with T.fits T.CONST_BITS DEPTH SL SF MUL }
-    ensures end { (name text : List ℕ) → TextOf target (parts_form parts) text → IsEndAfter (command_over what (configs_named name trace.entry.now)) (text ∷ []) (call_of (H.meaning hash.now) (F.content shelf.old) (F.faults shelf.old) (F.faults shelf.new) (sent_as result (S.held sink.old) (S.held sink.new) (S.faults sink.old) (S.faults sink.new))) }
+    ensures end { (name text : List ℕ) → TextOf target (parts_form parts) text → IsEndAfter (command_over what (configs_named name trace.entry.now)) (text ∷ []) (call_of (H.meaning hash.now) (tap_forms (λ b. form b) taps.items) (F.content shelf.old) (F.faults shelf.old) (F.faults shelf.new) (sent_as result (S.held sink.old) (S.held sink.new) (S.faults sink.old) (S.faults sink.new))) }
     ensures files { (name : List ℕ) → F.content shelf.new name ≡ F.content shelf.old name }
 {
     match prepare::<T, DEPTH, SL, SF, MUL, F>(alloc, target, what, parts, trace, shelf) {
-        Ok(run) => {
-            let put = put_over::<T, DEPTH, SL, SF, S, H>(what, run, hash, sink);
-            status_of(put)
-        }
+        Ok(run) => put_over::<T, DEPTH, SL, SF, S, H>(alloc, what, run, hash, sink, taps),
         Err(stop) => stopped(alloc, stop, sink),
     }
 }
 
-// Asks whether the parts are legal, and reads the trace.
+// Asks whether the parts are legal and have the stage that is named, and reads the trace.
 fn prepare<
     T: AtomTemplate,
     const DEPTH: usize,
@@ -82,6 +81,7 @@ fn prepare<
     requires stateful { (1 ≤ SF) × (SF ≤ 65535) }
     requires shape { shape_of target ≡ shape_with T.fits T.CONST_BITS DEPTH SL SF MUL }
     ensures set_up { IfOk result (λ run. IsRunSetUp run.machine run.lines run.trace run.entering run.leaving) }
+    ensures within { OnOk result (is_within what DEPTH ≡ true) }
     ensures found { (name text : List ℕ) → TextOf target (parts_form parts) text → IfOk result (λ run. IsFoundAfter (MayHold (F.content shelf.old)) (command_over what (configs_named name trace.entry.now)) (text ∷ []) (Ok (job_over what run.machine.config run.trace))) }
     ensures stop { (name text : List ℕ) → TextOf target (parts_form parts) text → IfErr result (StopAfter (command_over what (configs_named name trace.entry.now)) (text ∷ []) (F.content shelf.old) (F.faults shelf.old) (F.faults shelf.new)) }
     ensures kept { OnOk result (AreKept (F.faults shelf.old) (F.faults shelf.new)) }
@@ -91,6 +91,10 @@ fn prepare<
         Ok(config) => config,
         Err(fault) => return Err(config_stop(fault)),
     };
+    let depth = DEPTH as u32;
+    if !what.is_within(depth) {
+        return Err(Stop::Refused(Refusal::Stage(depth)));
+    }
     traced::<T, DEPTH, SL, SF, F>(alloc, config, trace, shelf)
 }
 
@@ -103,40 +107,36 @@ fn put_over<
     S: Sink,
     H: HashUnits,
 >(
+    alloc: Global,
     what: ConfigTask,
-    run: Prepared<T, DEPTH, SL, SF>,
+    mut run: Prepared<T, DEPTH, SL, SF>,
     hash: &H,
     sink: &mut S,
-) -> Result<(), SinkFault>
-    requires { IsRunSetUp run.machine run.lines run.trace run.entering run.leaving }
-    ensures bytes { Puts (S.held sink.old) (S.held sink.new) (report_of (H.meaning hash.now) (job_over what run.machine.config run.trace)) result }
-    ensures cause { HasCause (S.faults sink.old) (S.faults sink.new) result }
+    taps: Vec<Box<dyn Tap>>,
+) -> u8
+    requires set_up { IsRunSetUp run.machine run.lines run.trace run.entering run.leaving }
+    requires within { is_within what DEPTH ≡ true }
+    ensures { IsTriedWithMemory 0 (report_of (H.meaning hash.now) (tap_forms (λ b. form b) taps.items) (job_over what run.machine.config run.trace)) (sent_as result (S.held sink.old) (S.held sink.new) (S.faults sink.old) (S.faults sink.new)) }
 {
-    let Prepared {
-        mut machine,
-        mut lines,
-        trace,
-        mut entering,
-        mut leaving,
-    } = run;
     match what {
-        ConfigTask::Exec => put_run_report(
-            &mut machine,
-            &mut lines,
-            &trace,
-            &mut entering,
-            &mut leaving,
+        ConfigTask::Exec => status_of(put_run_report(
+            &mut run.machine,
+            &mut run.lines,
+            &run.trace,
+            &mut run.entering,
+            &mut run.leaving,
             hash,
             sink,
-        ),
-        ConfigTask::Watch => put_watch_report(
-            &mut machine,
-            lines,
-            &trace,
-            &mut entering,
-            &mut leaving,
+        )),
+        ConfigTask::Watch => status_of(put_watch_report(
+            &mut run.machine,
+            run.lines,
+            &run.trace,
+            &mut run.entering,
+            &mut run.leaving,
             hash,
             sink,
-        ),
+        )),
+        ConfigTask::Probe(stage) => put_probe(alloc, stage, run, hash, sink, taps),
     }
 }

@@ -4,6 +4,7 @@ ghost use Rattle.banzai_config.specs.Targets.{shape_of};
 ghost use Rattle.dom_finding.specs.Command.{files_named, run as run_of};
 ghost use Rattle.dom_finding.specs.Finding.{IsFoundAfter, MayHold, clocked};
 ghost use Rattle.dom_finding.specs.Stops.{AreKept, StopAfter};
+ghost use Rattle.probe_taps.specs.Taps.{TapForm};
 ghost use Rattle.dom_shell.specs.Ends.{IsEndAfter, call_of, sent_as};
 ghost use Rattle.dom_shell.specs.RunSetUp.{IsRunSetUp};
 
@@ -42,7 +43,7 @@ pub(crate) fn run_on<
     requires stateless { (1 ≤ SL) × (SL ≤ 65535) }
     requires stateful { (1 ≤ SF) × (SF ≤ 65535) }
     requires shape { shape_of target ≡ shape_with T.fits T.CONST_BITS DEPTH SL SF MUL }
-    ensures end { (name : List ℕ) → IsEndAfter (run_of target (files_named name trace.entry.now)) (text.now ∷ []) (call_of (H.meaning hash.now) (F.content shelf.old) (F.faults shelf.old) (F.faults shelf.new) (sent_as result (S.held sink.old) (S.held sink.new) (S.faults sink.old) (S.faults sink.new))) }
+    ensures end { (name : List ℕ) (taps : List TapForm) → IsEndAfter (run_of target (files_named name trace.entry.now)) (text.now ∷ []) (call_of (H.meaning hash.now) taps (F.content shelf.old) (F.faults shelf.old) (F.faults shelf.new) (sent_as result (S.held sink.old) (S.held sink.new) (S.faults sink.old) (S.faults sink.new))) }
     ensures files { (name : List ℕ) → F.content shelf.new name ≡ F.content shelf.old name }
 {
     match prepare::<T, DEPTH, SL, SF, MUL, F>(alloc, target, text, trace, shelf) {

@@ -9,6 +9,7 @@ ghost use Rattle.dom_finding.specs.OwnProgram.{own_program};
 ghost use Rattle.dom_finding.specs.Refusals.{refused_compile};
 ghost use Rattle.dom_finding.specs.Stops.{TextStop};
 ghost use Rattle.dom_report.specs.SelfRun.{drawn, selfrun_report, summary_over};
+ghost use Rattle.probe_taps.specs.Taps.{TapForm};
 ghost use Rattle.dom_shell.specs.Ends.{IsEndAfter, call_of, sent_as};
 
 use crate::ending::{status_of, stopped};
@@ -38,7 +39,7 @@ pub(crate) fn selfrun_on<
     requires stateless { (1 ≤ SL) × (SL ≤ 65535) }
     requires stateful { (1 ≤ SF) × (SF ≤ 65535) }
     requires shape { shape_of target ≡ shape_with T.fits T.CONST_BITS DEPTH SL SF MUL }
-    ensures { (files : List ℕ → Option (List ℕ)) (unread : List ℕ → ℕ) → IsEndAfter (selfrun_of target seed count) [] (call_of (H.meaning hash.now) files unread unread (sent_as result (S.held sink.old) (S.held sink.new) (S.faults sink.old) (S.faults sink.new))) }
+    ensures { (taps : List TapForm) (files : List ℕ → Option (List ℕ)) (unread : List ℕ → ℕ) → IsEndAfter (selfrun_of target seed count) [] (call_of (H.meaning hash.now) taps files unread unread (sent_as result (S.held sink.old) (S.held sink.new) (S.faults sink.old) (S.faults sink.new))) }
 {
     match summed::<T, DEPTH, SL, SF, MUL, H>(alloc, target, seed, count, text, hash) {
         Ok(written) => status_of(put_text(written.as_slice(), sink)),

@@ -7,6 +7,7 @@ ghost use Rattle.dom_finding.specs.CommandForm.{names_in};
 ghost use Rattle.dom_finding.specs.Finding.{IsFoundAfter, MayHold, in_turn};
 ghost use Rattle.dom_finding.specs.Refusals.{refused_trace};
 ghost use Rattle.dom_finding.specs.Stops.{AreKept, StopAfter, TextStop};
+ghost use Rattle.probe_taps.specs.Taps.{TapForm};
 ghost use Rattle.dom_shell.specs.Ends.{IsEndAfter, call_of, sent_as};
 ghost use Rattle.dom_shell.specs.SerialSetUp.{IsSerialSetUp};
 
@@ -36,7 +37,7 @@ pub(crate) fn serial<F: Shelf, S: Sink, H: HashUnits>(
     sink: &mut S,
     hash: &H,
 ) -> u8
-    ensures end { IsEndAfter (serial_of (names_in files.entry)) [] (call_of (H.meaning hash.now) (F.content shelf.old) (F.faults shelf.old) (F.faults shelf.new) (sent_as result (S.held sink.old) (S.held sink.new) (S.faults sink.old) (S.faults sink.new))) }
+    ensures end { (taps : List TapForm) → IsEndAfter (serial_of (names_in files.entry)) [] (call_of (H.meaning hash.now) taps (F.content shelf.old) (F.faults shelf.old) (F.faults shelf.new) (sent_as result (S.held sink.old) (S.held sink.new) (S.faults sink.old) (S.faults sink.new))) }
     ensures files { (name : List ℕ) → F.content shelf.new name ≡ F.content shelf.old name }
 {
     match prepare(alloc, files, shelf) {

@@ -1,6 +1,7 @@
 ghost use Rattle.std.specs.Prelude.{◌≡◌, ℕ, ◌≤◌, List};
 ghost use Rattle.banzai_config.specs.Checked.{shape_with};
 ghost use Rattle.banzai_config.specs.Targets.{shape_of, template_fits};
+ghost use Rattle.probe_taps.specs.Taps.{tap_forms};
 ghost use Rattle.dom_shell.specs.Ends.{IsEndAfter, call_of, sent_as};
 ghost use Rattle.dom_shell.specs.Tasks.{IsReadFor, command_for, texts_for};
 
@@ -13,6 +14,7 @@ use atom_traits::{AtomTemplate, IfElse, Nested, Pairs, Praw, Raw, Sub, Write};
 use banzai_config::{Geometry, Target, Template};
 use dom_io::{Shelf, Sink};
 use dom_words::HashUnits;
+use probe_taps::Tap;
 use std::alloc::Global;
 
 /// Does a task for a target, with the text of the first file or of the command's own program: the one place in which a target chooses the types and numbers of
@@ -25,20 +27,21 @@ pub(crate) fn on_target<F: Shelf, S: Sink, H: HashUnits>(
     shelf: &mut F,
     sink: &mut S,
     hash: &H,
+    taps: Vec<Box<dyn Tap>>,
 ) -> u8
     requires { IsReadFor target task text.now }
-    ensures end { (name : List ℕ) → IsEndAfter (command_for target name task.entry) (texts_for task.entry text.now) (call_of (H.meaning hash.now) (F.content shelf.old) (F.faults shelf.old) (F.faults shelf.new) (sent_as result (S.held sink.old) (S.held sink.new) (S.faults sink.old) (S.faults sink.new))) }
+    ensures end { (name : List ℕ) → IsEndAfter (command_for target name task.entry) (texts_for task.entry text.now) (call_of (H.meaning hash.now) (tap_forms (λ b. form b) taps.items) (F.content shelf.old) (F.faults shelf.old) (F.faults shelf.new) (sent_as result (S.held sink.old) (S.held sink.new) (S.faults sink.old) (S.faults sink.new))) }
     ensures files { (name : List ℕ) → F.content shelf.new name ≡ F.content shelf.old name }
 {
     match target.geometry {
         Geometry::Small => on_template::<5, 4, 4, 1, false, F, S, H>(
-            alloc, target, task, text, shelf, sink, hash,
+            alloc, target, task, text, shelf, sink, hash, taps,
         ),
         Geometry::Medium => on_template::<16, 12, 16, 4, false, F, S, H>(
-            alloc, target, task, text, shelf, sink, hash,
+            alloc, target, task, text, shelf, sink, hash, taps,
         ),
         Geometry::Large => on_template::<32, 32, 300, 10, true, F, S, H>(
-            alloc, target, task, text, shelf, sink, hash,
+            alloc, target, task, text, shelf, sink, hash, taps,
         ),
     }
 }
@@ -61,36 +64,37 @@ fn on_template<
     shelf: &mut F,
     sink: &mut S,
     hash: &H,
+    taps: Vec<Box<dyn Tap>>,
 ) -> u8
     requires text { IsReadFor target task text.now }
     requires depth { (1 ≤ DEPTH) × (DEPTH ≤ 65535) }
     requires stateless { (1 ≤ SL) × (SL ≤ 65535) }
     requires stateful { (1 ≤ SF) × (SF ≤ 65535) }
     requires shape { shape_of target ≡ shape_with (template_fits target.template K) K DEPTH SL SF MUL }
-    ensures end { (name : List ℕ) → IsEndAfter (command_for target name task.entry) (texts_for task.entry text.now) (call_of (H.meaning hash.now) (F.content shelf.old) (F.faults shelf.old) (F.faults shelf.new) (sent_as result (S.held sink.old) (S.held sink.new) (S.faults sink.old) (S.faults sink.new))) }
+    ensures end { (name : List ℕ) → IsEndAfter (command_for target name task.entry) (texts_for task.entry text.now) (call_of (H.meaning hash.now) (tap_forms (λ b. form b) taps.items) (F.content shelf.old) (F.faults shelf.old) (F.faults shelf.new) (sent_as result (S.held sink.old) (S.held sink.new) (S.faults sink.old) (S.faults sink.new))) }
     ensures files { (name : List ℕ) → F.content shelf.new name ≡ F.content shelf.old name }
 {
     match target.template {
         Template::Write => perform_on::<Write<K>, DEPTH, SL, SF, MUL, F, S, H>(
-            alloc, target, task, text, shelf, sink, hash,
+            alloc, target, task, text, shelf, sink, hash, taps,
         ),
         Template::Raw => perform_on::<Raw<K>, DEPTH, SL, SF, MUL, F, S, H>(
-            alloc, target, task, text, shelf, sink, hash,
+            alloc, target, task, text, shelf, sink, hash, taps,
         ),
         Template::Praw => perform_on::<Praw<K>, DEPTH, SL, SF, MUL, F, S, H>(
-            alloc, target, task, text, shelf, sink, hash,
+            alloc, target, task, text, shelf, sink, hash, taps,
         ),
         Template::IfElse => perform_on::<IfElse<K>, DEPTH, SL, SF, MUL, F, S, H>(
-            alloc, target, task, text, shelf, sink, hash,
+            alloc, target, task, text, shelf, sink, hash, taps,
         ),
         Template::Sub => perform_on::<Sub<K>, DEPTH, SL, SF, MUL, F, S, H>(
-            alloc, target, task, text, shelf, sink, hash,
+            alloc, target, task, text, shelf, sink, hash, taps,
         ),
         Template::Nested => perform_on::<Nested<K>, DEPTH, SL, SF, MUL, F, S, H>(
-            alloc, target, task, text, shelf, sink, hash,
+            alloc, target, task, text, shelf, sink, hash, taps,
         ),
         Template::Pairs => perform_on::<Pairs<K>, DEPTH, SL, SF, MUL, F, S, H>(
-            alloc, target, task, text, shelf, sink, hash,
+            alloc, target, task, text, shelf, sink, hash, taps,
         ),
     }
 }
@@ -113,13 +117,14 @@ fn perform_on<
     shelf: &mut F,
     sink: &mut S,
     hash: &H,
+    taps: Vec<Box<dyn Tap>>,
 ) -> u8
     requires text { IsReadFor target task text.now }
     requires depth { (1 ≤ DEPTH) × (DEPTH ≤ 65535) }
     requires stateless { (1 ≤ SL) × (SL ≤ 65535) }
     requires stateful { (1 ≤ SF) × (SF ≤ 65535) }
     requires shape { shape_of target ≡ shape_with T.fits T.CONST_BITS DEPTH SL SF MUL }
-    ensures end { (name : List ℕ) → IsEndAfter (command_for target name task.entry) (texts_for task.entry text.now) (call_of (H.meaning hash.now) (F.content shelf.old) (F.faults shelf.old) (F.faults shelf.new) (sent_as result (S.held sink.old) (S.held sink.new) (S.faults sink.old) (S.faults sink.new))) }
+    ensures end { (name : List ℕ) → IsEndAfter (command_for target name task.entry) (texts_for task.entry text.now) (call_of (H.meaning hash.now) (tap_forms (λ b. form b) taps.items) (F.content shelf.old) (F.faults shelf.old) (F.faults shelf.new) (sent_as result (S.held sink.old) (S.held sink.new) (S.faults sink.old) (S.faults sink.new))) }
     ensures files { (name : List ℕ) → F.content shelf.new name ≡ F.content shelf.old name }
 {
     match task {
@@ -131,7 +136,7 @@ fn perform_on<
             alloc, target, seed, count, text, sink, hash,
         ),
         Task::Config { what, parts, trace } => over_on::<T, DEPTH, SL, SF, MUL, F, S, H>(
-            alloc, target, what, parts, trace, shelf, sink, hash,
+            alloc, target, what, parts, trace, shelf, sink, hash, taps,
         ),
     }
 }

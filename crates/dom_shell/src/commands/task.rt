@@ -1,4 +1,8 @@
+ghost use Rattle.std.specs.Prelude.{◌≡◌};
+ghost use Rattle.dom_shell.specs.Tasks.{is_within as is_within_depth};
+
 use banzai_config::Parts;
+use dom_finding::Stage;
 
 /// What is to be done for a target, with the text of the first file, or of the command's own program.
 #[derive(Drop)]
@@ -27,4 +31,18 @@ pub(crate) enum ConfigTask {
     Exec,
     /// Every cycle of it.
     Watch,
+    /// The report of the run under taps before this stage.
+    Probe(Stage),
+}
+
+impl ConfigTask {
+    /// Whether the stage that it names, if it names one, is one of so many.
+    pub(crate) fn is_within(self, depth: u32) -> bool
+        ensures { result ≡ is_within_depth self depth }
+    {
+        match self {
+            ConfigTask::Exec | ConfigTask::Watch => true,
+            ConfigTask::Probe(stage) => stage.number <= depth,
+        }
+    }
 }
