@@ -28,6 +28,8 @@ pub data Command : Type 0 where
   exec : ConfigNames → Command
   -- and every cycle of it told
   watch : ConfigNames → Command
+  -- the configuration in this file with shared containers
+  upgrade : List ℕ → Command
   -- a program of the command's own clocked on a target, over packets that are drawn: from this seed, so many of them
   selfrun : Target → ℕ → ℕ → Command
 
@@ -79,6 +81,11 @@ abbrev pub watch_of : List (List ℕ) → Option Command
 watch_of (config ∷ trace ∷ []) = if is_file config && is_file trace then Some (watch (configs_named config trace)) else None
 watch_of _ = None
 
+-- `CONFIG`
+abbrev pub upgrade_of : List (List ℕ) → Option Command
+upgrade_of (config ∷ []) = if is_file config then Some (upgrade config) else None
+upgrade_of _ = None
+
 -- `TARGET SEED COUNT`, where TARGET is the name of a target, SEED a number up to 4294967295, and COUNT one up to 400000
 abbrev pub selfrun_of : List (List ℕ) → Option Command
 selfrun_of (name ∷ seed ∷ count ∷ []) =
@@ -96,5 +103,6 @@ command_of (command ∷ words) =
     else (if is_same command (codes "compile") then compile_of words
     else (if is_same command (codes "exec") then exec_of words
     else (if is_same command (codes "watch") then watch_of words
+    else (if is_same command (codes "upgrade") then upgrade_of words
     else (if is_same command (codes "selfrun") then selfrun_of words
-    else None)))))
+    else None))))))

@@ -1,5 +1,5 @@
 -- The command that the code has found, as the definition's.
-use Rattle.dom_finding.specs.Command.{Command, ConfigNames, FileNames, compile, exec, run, selfrun, serial, watch}
+use Rattle.dom_finding.specs.Command.{Command, ConfigNames, FileNames, compile, exec, run, selfrun, serial, upgrade, watch}
 use Rattle.dom_finding.specs.declared.command.ConfigFiles.{ConfigFiles}
 use Rattle.dom_finding.specs.declared.command.Files.{Files}
 use Rattle.dom_finding.specs.declared.command.Command.{Command as Found}
@@ -17,4 +17,5 @@ command_in (found.Serial files) = serial (names_in files)
 command_in (found.Compile target program) = compile target program.now
 command_in (found.Exec files) = exec (configs_in files)
 command_in (found.Watch files) = watch (configs_in files)
+command_in (found.Upgrade config) = upgrade config.now
 command_in (found.SelfRun target seed count) = selfrun target seed count

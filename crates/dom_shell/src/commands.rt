@@ -8,6 +8,7 @@ mod selfrun;
 mod serial;
 mod targets;
 mod task;
+mod upgrade;
 
 ghost use Rattle.std.specs.Prelude.{◌≡◌, ℕ, List, []};
 ghost use Rattle.dom_finding.specs.CommandForm.{command_in};
@@ -18,6 +19,7 @@ use crate::commands::program::with_program;
 use crate::commands::serial::serial;
 use crate::commands::targets::on_target;
 use crate::commands::task::{ConfigTask, Task};
+use crate::commands::upgrade::upgrade;
 use dom_finding::{Command, own_program};
 use dom_io::{Shelf, Sink};
 use dom_words::HashUnits;
@@ -53,6 +55,7 @@ pub(crate) fn perform<F: Shelf, S: Sink, H: HashUnits>(
             on_target(alloc, target, task, text, shelf, sink, hash)
         }
         Command::Exec(files) => with_config(alloc, ConfigTask::Exec, files, shelf, sink, hash),
+        Command::Upgrade(config) => upgrade(alloc, config, shelf, sink, hash),
         Command::Watch(files) => with_config(alloc, ConfigTask::Watch, files, shelf, sink, hash),
     }
 }
