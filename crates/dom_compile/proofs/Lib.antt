@@ -6,4 +6,5 @@ pub mod Names
 pub mod OneAnswer
 pub mod OneProgram
 pub mod Runs
+pub mod Sharing
 pub mod WellNamed

@@ -13,6 +13,7 @@ use Rattle.atom_match.specs.Atoms.{AtomForm, first_outside}
 use Rattle.banzai_config.specs.Legal.{Shape}
 use Rattle.banzai_config.specs.Parts.{PartsForm}
 use Rattle.compile_law.specs.Compiled.{compiled_parts}
+use Rattle.container_plan.specs.Shared.{shared}
 use Rattle.dom_ast.specs.Resolved.{CheckedForm}
 use Rattle.dom_compile.specs.Answer.{CompileRefusal, IsCompileAnswer, IsFitted, full, ill_formed, outside, too_deep, too_many}
 use Rattle.dom_compile.specs.Compiled.{IsCompiled, listed}
@@ -114,11 +115,11 @@ module _ (s : Shape) (text : List ℕ) where
       let atoms : a.2.atoms ≡ b.2.atoms = same_atoms a.0 b.0 same a.2.atoms b.2.atoms a.2.atoms_are b.2.atoms_are in
       let e : all_placed a.2.places ≡ all_placed b.2.places = sym a.2.placed ∙ ap schedule_of (same_list a.0 b.0 same) ∙ b.2.placed in
       let places : a.2.places ≡ b.2.places = cc in
-      a.2.parts_are
-      ∙ same_parts a.0 b.0 same s.depth a.2.atoms a.2.places
+      let own : compiled_parts a.0 s.depth a.2.atoms a.2.places ≡ compiled_parts b.0 s.depth b.2.atoms b.2.places =
+      same_parts a.0 b.0 same s.depth a.2.atoms a.2.places
       ∙ ap (λ (xs : List AtomForm). compiled_parts b.0 s.depth xs a.2.places) atoms
-      ∙ ap (λ (ps : List Place). compiled_parts b.0 s.depth b.2.atoms ps) places
-      ∙ sym b.2.parts_are
+      ∙ ap (λ (ps : List Place). compiled_parts b.0 s.depth b.2.atoms ps) places in
+      a.2.parts_are ∙ ap shared own ∙ sym b.2.parts_are
 
 pub one_compile_answer : (s : Shape) (text : List ℕ) (a b : Result PartsForm CompileRefusal) → IsCompileAnswer s text a → IsCompileAnswer s text b → a ≡ b
 one_compile_answer s text (Err (ill_formed f)) (Err (ill_formed f')) a b = let e = one_program text (Err f) (Err f') a b in let same : f ≡ f' = cc in ap (λ (x : ProgramFault). Err (ill_formed x)) same

@@ -12,6 +12,11 @@ use Rattle.banzai_config.specs.Parts.{PartsForm}
 use Rattle.compile_law.specs.Runs.{IsMeaningOf, in_turn}
 use Rattle.compile_law.proofs.Compiled.{does_as_listed}
 use Rattle.compile_law.proofs.Turns as turns
+use Rattle.compile_law.specs.Compiled.{compiled_parts}
+use Rattle.container_plan.specs.Shared.{shared}
+use Rattle.container_plan.proofs.Lawful.{legal_one, narrow}
+use Rattle.container_plan.proofs.Legal.{room}
+use Rattle.container_plan.proofs.Meaning.{alone_same, one_same}
 use Rattle.dom_ast.specs.Meaning.{one, serial_arrays, serial_packets}
 use Rattle.dom_ast.specs.Resolved.{BodyForm, CheckedForm}
 use Rattle.dom_compile.specs.Answer.{IsCompileAnswer, IsConfigured, IsFitted}
@@ -42,19 +47,34 @@ module _ (s : Shape) (program : CheckedForm) (c : Codelets) (listed : IsListed p
   meaning hash packet state small words declared =
       listed.means hash packet state small (words ∙ ap (length {A = List ℕ}) listed.fields) (subst (λ (arrays : List Array). IsStateOf arrays state) listed.arrays declared)
 
+  -- the parts with one container for each value
+  abbrev own : PartsForm
+  own = compiled_parts c s.depth configured.atoms configured.places
+
+  shared_acts : (hash : Hash) (state : Arrays) (packet : List ℕ) → length packet ≡ length c.flat.fields → outcome_of hash (shared own) state packet ≡ outcome_of hash own state packet
+  shared_acts hash =
+      one_same hash own (legal_one s own configured.unshared refl) (narrow s own configured.unshared) (room s own configured.unshared refl)
+
+  shared_runs : (hash : Hash) (packets : List (List ℕ)) → AllByRecursion (λ p. length p ≡ length c.flat.fields) packets → alone hash (shared own) packets ≡ alone hash own packets
+  shared_runs hash =
+      alone_same hash own (legal_one s own configured.unshared refl) (narrow s own configured.unshared) (room s own configured.unshared refl) (started own.arrays)
+
   listed_acts : ActsAs program parts
   listed_acts hash packet state small words declared =
       let long : length packet ≡ length c.flat.fields = words ∙ sym (ap (length {A = List ℕ}) listed.fields) in
       ap (λ (p : PartsForm). outcome_of hash p state packet) configured.parts_are
+      ∙ shared_acts hash state packet long
       ∙ does_as_listed c s.depth s.stateless s.stateful configured.atoms configured.places configured.atoms_are plan hash state packet long
       ∙ listed.means hash packet state small words declared
 
   listed_runs : RunsAs program parts
   listed_runs hash packets small long =
+      let full : AllByRecursion (λ p. length p ≡ length c.flat.fields) packets =
+      subst (λ (fields : List (List ℕ)). AllByRecursion (λ p. length p ≡ length fields) packets) (sym listed.fields) long in
       let same : alone hash parts packets ≡ in_turn (one hash program.bodies) (started program.arrays) packets =
       ap (λ (p : PartsForm). alone hash p packets) configured.parts_are
-      ∙ turns.runs_as c s.depth s.stateless s.stateful configured.atoms configured.places configured.atoms_are plan (means program) meaning hash packets small
-      (subst (λ (fields : List (List ℕ)). AllByRecursion (λ p. length p ≡ length fields) packets) (sym listed.fields) long)
+      ∙ shared_runs hash packets full
+      ∙ turns.runs_as c s.depth s.stateless s.stateful configured.atoms configured.places configured.atoms_are plan (means program) meaning hash packets small full
       ∙ ap (λ (arrays : List Array). in_turn (one hash program.bodies) (started arrays) packets) listed.arrays in
       record {
         packets_are = ap (λ (o : AloneOutcome). o.packets) same ∙ packets_in_turn hash program.bodies (started program.arrays) packets;

@@ -13,6 +13,7 @@ use Rattle.atom_match.specs.Atoms.{AtomForm, IsMatchFault, first_outside}
 use Rattle.banzai_config.specs.Legal.{LegalFor, Shape}
 use Rattle.banzai_config.specs.Parts.{PartsForm}
 use Rattle.compile_law.specs.Compiled.{AreAtomsOf, compiled_parts}
+use Rattle.container_plan.specs.Shared.{shared}
 use Rattle.dom_ast.specs.Resolved.{CheckedForm}
 use Rattle.dom_compile.specs.declared.faults.CompileFault.{CompileFault}
 use Rattle.dom_compile.specs.declared.faults.CompileFault.TheVariants as fault
@@ -39,14 +40,16 @@ pub record IsFitted (fits : TreesForm → Bool) (multiplies : Bool) (text : List
 abbrev pub IsOutside : (TreesForm → Bool) → Bool → List ℕ → ℕ → Type 0
 IsOutside fits multiplies text n = (codelets : Codelets) × IsCompiled text codelets.flat × IsMatchFault fits multiplies codelets (Outside n)
 
--- the codelets have these parts: their atoms at the stages of the list schedule; and the target takes them
+-- the codelets have these parts: their atoms at the stages of the list schedule, with values that share containers; and the
+-- target takes them, with shared containers and with one container for each value
 pub record IsConfigured (s : Shape) (codelets : Codelets) (parts : PartsForm) : Type 0 where
   pub atoms : List AtomForm
   pub places : List Place
   pub atoms_are : AreAtomsOf codelets atoms
   pub shallow : greatest_level codelets.list ≤ s.depth
   pub placed : schedule s.depth s.stateless s.stateful [] codelets.list ≡ all_placed places
-  pub parts_are : parts ≡ compiled_parts codelets s.depth atoms places
+  pub unshared : LegalFor s (compiled_parts codelets s.depth atoms places)
+  pub parts_are : parts ≡ shared (compiled_parts codelets s.depth atoms places)
   pub legal : LegalFor s parts
 
 -- what a text is for a target

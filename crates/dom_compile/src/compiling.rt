@@ -12,14 +12,15 @@ use atom_traits::AtomTemplate;
 use banzai_config::Config;
 use codelets::{Codelets, condense};
 use compile_parts::configured;
+use container_plan::share;
 use dep_graph::Graph;
 use stage_plan::plan;
 use std::alloc::Global;
 
 /// The configuration of the program that a text of at most 65,536 bytes spells, for a target with `DEPTH` stages of at most
 /// `SL` atoms without and `SF` atoms with state, and with multipliers where `MUL` holds; or the first cause why there is
-/// none. The configuration is legal for the target and does to packets and state what the program does
-/// (docs/ARCHITECTURE.md, "The way of a program").
+/// none. The configuration is legal for the target, its values share containers, and it does to packets and state what the
+/// program does (docs/ARCHITECTURE.md, "The way of a program").
 pub fn compile<
     T: AtomTemplate,
     const DEPTH: usize,
@@ -36,7 +37,8 @@ pub fn compile<
 {
     let (codelets, atoms) = front::<T, MUL>(alloc, text)?;
     let stages = plan::<DEPTH, SL, SF>(alloc, &codelets)?;
-    Ok(configured::<T, DEPTH, SL, SF, MUL>(alloc, &codelets, &atoms, &stages)?)
+    let config = configured::<T, DEPTH, SL, SF, MUL>(alloc, &codelets, &atoms, &stages)?;
+    Ok(share::<T, DEPTH, SL, SF, MUL>(alloc, config)?)
 }
 
 /// The codelets of the program that a text spells, and their atoms.

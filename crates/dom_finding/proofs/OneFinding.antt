@@ -11,9 +11,9 @@ use Rattle.banzai_config.specs.Targets.{shape_of}
 use Rattle.config_text.specs.Fronts.{text_of}
 use Rattle.dom_compile.specs.Answer.{IsCompileAnswer}
 use Rattle.dom_compile.proofs.OneAnswer.{one_compile_answer}
-use Rattle.dom_finding.specs.Command.{Command, ConfigNames, compile, exec, probe, run, selfrun, serial, watch}
+use Rattle.dom_finding.specs.Command.{Command, ConfigNames, compile, exec, probe, run, selfrun, serial, watch, upgrade}
 use Rattle.dom_finding.specs.Configs.{ConfigForm, IsConfig}
-use Rattle.dom_finding.specs.Finding.{Ask, Finding, Gives, IsFoundAfter, IsNext, IsNextOver, IsTold, IsUnreadAfter, Job, MayHold, Next, Packets, after_answer, ask, clocked, drawn, ends, found, here, in_turn, later, over, reads, tapped, trace_behind, trace_file, watched, written}
+use Rattle.dom_finding.specs.Finding.{Ask, Finding, Gives, IsFoundAfter, IsNext, IsNextOver, IsTold, IsUnreadAfter, Job, MayHold, Next, Packets, after_answer, ask, clocked, drawn, ends, found, here, in_turn, later, over, reads, tapped, trace_behind, trace_file, watched, written, upgraded_text}
 use Rattle.dom_finding.specs.OwnProgram.{own_program}
 use Rattle.dom_finding.specs.Refusals.{refused_compile, refused_config, refused_program, refused_trace}
 use Rattle.dom_finding.proofs.OneConfig.{one_config}
@@ -63,6 +63,9 @@ next_once (compile target name) (second ∷ program ∷ more) m n a b = absurd a
 next_once (exec names) texts m n a b = over_once names (λ parts. ask (trace_file names.trace)) clocked texts m n a b
 next_once (watch names) texts m n a b = over_once names (λ parts. ask (trace_file names.trace)) watched texts m n a b
 next_once (probe names stage) texts m n a b = over_once names (trace_behind stage names) (tapped stage) texts m n a b
+next_once (upgrade name) [] m n a b = a ∙ sym b
+next_once (upgrade name) (config ∷ []) m n a b = gives_once (IsConfig config) refused_config (λ c. found (Ok (written (upgraded_text c)))) m n (one_config config) a b
+next_once (upgrade name) (second ∷ config ∷ more) m n a b = absurd a
 next_once (selfrun target seed count) [] m n a b =
     gives_once (IsCompileAnswer (shape_of target) (own_program target)) refused_compile (λ parts. found (Ok (drawn target seed count parts))) m n
     (one_compile_answer (shape_of target) (own_program target)) a b

@@ -30,6 +30,8 @@ pub data Command : Type 0 where
   watch : ConfigNames → Command
   -- a configuration clocked under taps before this stage
   probe : ConfigNames → ℕ → Command
+  -- the configuration in this file with shared containers
+  upgrade : List ℕ → Command
   -- a program of the command's own clocked on a target, over packets that are drawn: from this seed, so many of them
   selfrun : Target → ℕ → ℕ → Command
 
@@ -86,6 +88,10 @@ abbrev pub probe_of : List (List ℕ) → Option Command
 probe_of (config ∷ trace ∷ stage ∷ []) =
     if is_file config && is_file trace then option_map (λ n. probe (configs_named config trace) n) (number_in 1 32 stage) else None
 probe_of _ = None
+-- `CONFIG`
+abbrev pub upgrade_of : List (List ℕ) → Option Command
+upgrade_of (config ∷ []) = if is_file config then Some (upgrade config) else None
+upgrade_of _ = None
 
 -- `TARGET SEED COUNT`, where TARGET is the name of a target, SEED a number up to 4294967295, and COUNT one up to 400000
 abbrev pub selfrun_of : List (List ℕ) → Option Command
@@ -105,5 +111,6 @@ command_of (command ∷ words) =
     else (if is_same command (codes "exec") then exec_of words
     else (if is_same command (codes "watch") then watch_of words
     else (if is_same command (codes "probe") then probe_of words
+    else (if is_same command (codes "upgrade") then upgrade_of words
     else (if is_same command (codes "selfrun") then selfrun_of words
     else None))))))

@@ -1,5 +1,5 @@
 -- The command that the code has found, as the definition's.
-use Rattle.dom_finding.specs.Command.{Command, ConfigNames, FileNames, compile, exec, probe, run, selfrun, serial, watch}
+use Rattle.dom_finding.specs.Command.{Command, ConfigNames, FileNames, compile, exec, probe, run, selfrun, serial, watch, upgrade}
 use Rattle.dom_finding.specs.declared.command.ConfigFiles.{ConfigFiles}
 use Rattle.dom_finding.specs.declared.command.Files.{Files}
 use Rattle.dom_finding.specs.declared.command.Command.{Command as Found}
@@ -18,4 +18,5 @@ command_in (found.Compile target program) = compile target program.now
 command_in (found.Exec files) = exec (configs_in files)
 command_in (found.Watch files) = watch (configs_in files)
 command_in (found.Probe files stage) = probe (configs_in files) stage.number
+command_in (found.Upgrade config) = upgrade config.now
 command_in (found.SelfRun target seed count) = selfrun target seed count

@@ -8,9 +8,10 @@ use Rattle.banzai_config.specs.Parts.{PartsForm}
 use Rattle.banzai_config.specs.Targets.{shape_of}
 use Rattle.banzai_config.specs.declared.target.Target.{Target}
 use Rattle.config_text.specs.Fronts.{text_of}
+use Rattle.container_plan.specs.Shared.{shared_by}
 use Rattle.dom_compile.specs.Answer.{IsCompileAnswer}
 use Rattle.dom_compile.specs.Verdict.{IsProgram}
-use Rattle.dom_finding.specs.Command.{Command, ConfigNames, compile, exec, probe, run, selfrun, serial, watch}
+use Rattle.dom_finding.specs.Command.{Command, ConfigNames, compile, exec, probe, run, selfrun, serial, watch, upgrade}
 use Rattle.dom_finding.specs.Configs.{ConfigForm, IsConfig}
 use Rattle.dom_finding.specs.OwnProgram.{own_program}
 use Rattle.dom_finding.specs.Refusals.{refused_compile, refused_config, refused_program, refused_trace}
@@ -80,7 +81,11 @@ after_answer refuse go (Err fault) = found (Err (refuse fault))
 abbrev pub Gives : {X F : Type 0} → (Result X F → Type 0) → (F → Refusal) → (X → Next) → Next → Type 0
 Gives {X} {F} Is refuse go next = (answer : Result X F) × Is answer × (next ≡ after_answer refuse go answer)
 
--- The steps of the commands over a configuration: its file, then what its parts give, which is the trace's file unless there is
+-- the text of a configuration with shared containers
+abbrev pub upgraded_text : ConfigForm → List ℕ
+upgraded_text c = text_of c.target (shared_by c.parts.version c.parts)
+
+-- The steps of the commands that clock a configuration: its file, then what its parts give, which is the trace's file unless there is
 -- something against it, and then the packets of the trace, of which there is this job.
 abbrev pub IsNextOver : ConfigNames → (PartsForm → Next) → (PartsForm → Packets → Job) → List (List ℕ) → Next → Type 0
 IsNextOver names go job [] next = next ≡ ask (config_file names.config)
@@ -114,6 +119,9 @@ IsNext (compile target name) (second ∷ program ∷ more) next = ⊥
 IsNext (exec names) texts next = IsNextOver names (λ parts. ask (trace_file names.trace)) clocked texts next
 IsNext (watch names) texts next = IsNextOver names (λ parts. ask (trace_file names.trace)) watched texts next
 IsNext (probe names stage) texts next = IsNextOver names (trace_behind stage names) (tapped stage) texts next
+IsNext (upgrade name) [] next = next ≡ ask (config_file name)
+IsNext (upgrade name) (config ∷ []) next = Gives (IsConfig config) refused_config (λ c. found (Ok (written (upgraded_text c)))) next
+IsNext (upgrade name) (second ∷ config ∷ more) next = ⊥
 IsNext (selfrun target seed count) [] next =
     Gives (IsCompileAnswer (shape_of target) (own_program target)) refused_compile (λ parts. found (Ok (drawn target seed count parts))) next
 IsNext (selfrun target seed count) (text ∷ texts) next = ⊥

@@ -1,5 +1,5 @@
 ghost use Rattle.std.specs.Prelude.{◌≡◌, ◌≤◌, IfSome, option_map};
-ghost use Rattle.dom_finding.specs.Command.{command_of, compile_of, exec_of, number_in as number_within, probe_of, run_of, selfrun_of, serial_of, texts_of, watch_of};
+ghost use Rattle.dom_finding.specs.Command.{command_of, compile_of, exec_of, number_in as number_within, probe_of, run_of, selfrun_of, serial_of, texts_of, upgrade_of, watch_of};
 ghost use Rattle.dom_finding.specs.CommandForm.{command_in};
 
 use crate::stage::Stage;
@@ -57,6 +57,8 @@ pub enum Command<'a> {
         /// The stage before which they are attached.
         stage: Stage,
     },
+    /// A configuration with shared containers, by the name of its file.
+    Upgrade(&'a str),
     /// A program of the command's own clocked on a target, over packets that are drawn.
     SelfRun {
         target: Target,
@@ -78,6 +80,7 @@ pub fn read_words(words: &[String]) -> Option<Command<'_>>
         [command, rest @ ..] if command.as_str() == "exec" => exec_in(rest),
         [command, rest @ ..] if command.as_str() == "watch" => watch_in(rest),
         [command, rest @ ..] if command.as_str() == "probe" => probe_in(rest),
+        [command, rest @ ..] if command.as_str() == "upgrade" => upgrade_in(rest),
         [command, rest @ ..] if command.as_str() == "selfrun" => selfrun_in(rest),
         _ => None,
     }
@@ -169,6 +172,15 @@ fn probe_in(words: &[String]) -> Option<Command<'_>>
             let stage = Stage { number };
             Some(Command::Probe { files, stage })
         }
+        _ => None,
+    }
+}
+
+fn upgrade_in(words: &[String]) -> Option<Command<'_>>
+    ensures { option_map command_in result ≡ upgrade_of (texts_of words.entry.now) }
+{
+    match words {
+        [config] if !config.is_empty() => Some(Command::Upgrade(config.as_str())),
         _ => None,
     }
 }

@@ -2,6 +2,7 @@ mod clocked;
 mod configurations;
 mod ends;
 mod lines;
+mod shared;
 mod traces;
 
 use dom_io::{MemShelf, MemSink};
@@ -18,9 +19,13 @@ int total;
 void acc(struct Packet pkt) { total = total + pkt.x; pkt.sum = total; }
 ";
 
-// What `compile raw-small` makes of it.
+// A configuration that does what it does, in which no values share a container.
 const CONFIG: &str =
     "banzai,1\ntarget,raw-small\nfield,x\nfield,sum\narray,total,1,0\ncontainers,3\nstage,1\natom,1\nslot,0,#0,-,c2,add,c0\nstage,2\nstage,3\nstage,4\nout,c0\nout,c2\nend\n";
+
+// What `compile raw-small` makes of the program, and `upgrade` of the configuration.
+const SHARED: &str =
+    "banzai,2\ntarget,raw-small\nfield,x\nfield,sum\narray,total,1,0\ncontainers,2\nstage,1\natom,1\nslot,0,#0,-,c1,add,c0\nstage,2\nstage,3\nstage,4\nout,c0\nout,c1\nend\n";
 
 const TRACE: &str = "gap,x\n0,5\n2,7\n";
 
@@ -232,6 +237,8 @@ const REFUSED_WORDS: [&str; 21] = [
     "exec c",
     "exec c t u",
     "exec raw-small c t",
+    "upgrade",
+    "upgrade c t",
     "selfrun raw-small 7",
     "selfrun raw-tiny 7 1",
     "selfrun raw-small 07 1",
@@ -264,7 +271,7 @@ const CUT_REPORTS: [(&str, &str); 6] = [
     ("exec c t", "cycle,x,sum\n4,5,5\n7,"),
     ("watch c t", "cycle,0\nreg,0,5,0,0\ncy"),
     ("serial p t", "packet,x,sum\n1,5,5\n2,"),
-    ("compile raw-small p", "banzai,1\ntarget,raw-small\nfi"),
+    ("compile raw-small p", "banzai,2\ntarget,raw-small\nfi"),
     (
         "selfrun raw-small 7 1",
         "selfrun,raw-small,7,1\npackets,1\ncy",
@@ -367,7 +374,7 @@ const WHOLE_REPORTS: [(&str, &str); 6] = [
         "watch c t",
         "cycle,0\nreg,0,5,0,0\ncycle,1\nreg,1,5,0,5\ntouch,1,total,0\ncycle,2\nreg,2,5,0,5\ncycle,3\nreg,0,7,0,0\nreg,3,5,0,5\ncycle,4\nout,5,5\nreg,1,7,0,12\ntouch,1,total,0\ncycle,5\nreg,2,7,0,12\ncycle,6\nreg,3,7,0,12\ncycle,7\nout,7,12\ndone,2,8\n",
     ),
-    ("compile raw-small p", CONFIG),
+    ("compile raw-small p", SHARED),
     (
         "selfrun raw-small 7 1",
         "selfrun,raw-small,7,1\npackets,1\ncycles,5\nfold,1340218\ntotal,40140\n",

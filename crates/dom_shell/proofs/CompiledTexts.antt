@@ -1,11 +1,13 @@
 -- The text of compiled parts is a configuration's, and within the limit.
-use Rattle.std.proofs.Common.{◌≡◌, ℕ, ◌+◌, ◌<◌, ◌≤◌, true, List, [], ◌∷◌, length, map, fold, refl, ap, ◌∙◌, arith, Ok}
+use Rattle.std.proofs.Common.{◌≡◌, ℕ, ◌+◌, ◌<◌, ◌≤◌, true, List, [], ◌∷◌, length, map, fold, refl, ap, ◌∙◌, subst, arith, Ok}
 use Rattle.std.specs.List.{sum_by}
 use Rattle.dom_words.specs.declared.array.Array.{Array}
 use Rattle.banzai_config.specs.declared.target.Target.{Target}
-use Rattle.banzai_config.specs.Legal.{Shape}
+use Rattle.banzai_config.specs.Legal.{LegalFor, Shape}
 use Rattle.banzai_config.specs.Parts.{PartsForm}
 use Rattle.banzai_config.specs.Targets.{shape_of}
+use Rattle.compile_law.specs.Compiled.{compiled_parts}
+use Rattle.container_plan.specs.Shared.{shared}
 use Rattle.config_text.specs.Fronts.{TextOf, text_of}
 use Rattle.config_text.specs.Sizes.{array_name_size, name_size, names_size}
 use Rattle.config_text.specs.Small.{has_small_numbers}
@@ -16,13 +18,16 @@ use Rattle.dom_compile.specs.Answer.{IsCompileAnswer}
 use Rattle.dom_compile.specs.WellNamed.{array_names}
 use Rattle.dom_compile.proofs.WellNamed.{is_well_named}
 use Rattle.dom_finding.specs.Configs.{IsConfig, config_form}
+use Rattle.dom_shell.proofs.SharedSmall.{shared_small}
 use Rattle.dom_shell.proofs.SmallNumbers.{parts_small}
 
 -- the numbers of compiled parts are below 2^32
 pub compiled_small : (s : Shape) (text : List ℕ) (parts : PartsForm) → IsCompileAnswer s text (Ok parts) → has_small_numbers parts ≡ true
 compiled_small s text parts answer =
     let made = answer.2 in
-    ap has_small_numbers made.parts_are ∙ parts_small answer.0 s.depth made.atoms made.places made.atoms_are
+    let own : PartsForm = compiled_parts answer.0 s.depth made.atoms made.places in
+    let legal : LegalFor s (shared own) = subst (LegalFor s) made.parts_are made.legal in
+    ap has_small_numbers made.parts_are ∙ shared_small s own legal (parts_small answer.0 s.depth made.atoms made.places made.atoms_are)
 
 sizes_from : (n : ℕ) (arrays : List Array) → fold (λ k a. k + array_name_size a) n arrays ≡ fold (λ k (name : List ℕ). k + length name) n (map (λ (a : Array). a.name) arrays)
 sizes_from n [] = refl

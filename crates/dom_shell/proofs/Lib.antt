@@ -6,8 +6,11 @@ pub mod Ended
 pub mod ExecRuns
 pub mod Headline
 pub mod Over
+pub mod SharedRuns
+pub mod SharedSmall
 pub mod SmallNumbers
 pub mod SmallTrees
 pub mod Tasked
 pub mod Texts
+pub mod Upgraded
 pub mod WordLines

@@ -27,6 +27,7 @@ pub read_program : (target : Target) (text : List ℕ) (t : Task) → IsOnProgra
 read_program target text task.Compile on few = few
 read_program target text (task.Run trace) on few = few
 read_program target text (task.SelfRun seed count) on few = absurd on
+read_program target text (task.Upgrade parts) on few = absurd on
 read_program target text (task.Config what parts trace) on few = absurd on
 
 -- the program is wanted first
@@ -34,6 +35,7 @@ program_first : (target : Target) (name : List ℕ) (t : Task) → IsOnProgram t
 program_first target name task.Compile on = refl
 program_first target name (task.Run trace) on = refl
 program_first target name (task.SelfRun seed count) on = absurd on
+program_first target name (task.Upgrade parts) on = absurd on
 program_first target name (task.Config what parts trace) on = absurd on
 
 -- and is the one text that is read for it
@@ -41,6 +43,7 @@ program_alone : (t : Task) (text : List ℕ) → IsOnProgram t → texts_for t t
 program_alone task.Compile text on = refl
 program_alone (task.Run trace) text on = refl
 program_alone (task.SelfRun seed count) text on = absurd on
+program_alone (task.Upgrade parts) text on = absurd on
 program_alone (task.Config what parts trace) text on = absurd on
 
 module _ (target : Target) (name : List ℕ) (t : Task) (on : IsOnProgram t) (hash : Hash) (taps : List TapForm) (files : List ℕ → Option (List ℕ)) where

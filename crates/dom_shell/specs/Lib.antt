@@ -4,4 +4,5 @@ pub mod ExecIsRun
 pub mod RunIsSerial
 pub mod RunSetUp
 pub mod SerialSetUp
+pub mod SharedRuns
 pub mod Tasks

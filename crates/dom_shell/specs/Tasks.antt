@@ -4,7 +4,7 @@ use Rattle.banzai_config.specs.Parts.{PartsForm, parts_form}
 use Rattle.banzai_config.specs.declared.target.Target.{Target}
 use Rattle.config_text.specs.Fronts.{TextOf}
 use Rattle.dom_compile.specs.Programs.{most_program}
-use Rattle.dom_finding.specs.Command.{Command, ConfigNames, compile, configs_named, exec, files_named, probe, run, selfrun, watch}
+use Rattle.dom_finding.specs.Command.{Command, ConfigNames, compile, configs_named, exec, files_named, probe, run, selfrun, watch, upgrade}
 use Rattle.dom_finding.specs.Finding.{Job, Packets, clocked, tapped, watched}
 use Rattle.dom_finding.specs.OwnProgram.{own_program}
 use Rattle.dom_shell.specs.declared.commands.task.ConfigTask.{ConfigTask}
@@ -34,6 +34,7 @@ abbrev pub command_for : Target → List ℕ → Task → Command
 command_for target name task.Compile = compile target name
 command_for target name (task.Run trace) = run target (files_named name trace.now)
 command_for target name (task.SelfRun seed count) = selfrun target seed count
+command_for target name (task.Upgrade parts) = upgrade name
 command_for target name (task.Config what parts trace) = command_over what (configs_named name trace.now)
 
 -- the texts that have been read for it, where it is done with this text
@@ -41,6 +42,7 @@ abbrev pub texts_for : Task → List ℕ → List (List ℕ)
 texts_for task.Compile text = text ∷ []
 texts_for (task.Run trace) text = text ∷ []
 texts_for (task.SelfRun seed count) text = []
+texts_for (task.Upgrade parts) text = text ∷ []
 texts_for (task.Config what parts trace) text = text ∷ []
 
 -- its first file is a program
@@ -48,6 +50,7 @@ abbrev pub IsOnProgram : Task → Type 0
 IsOnProgram task.Compile = ⊤
 IsOnProgram (task.Run trace) = ⊤
 IsOnProgram (task.SelfRun seed count) = ⊥
+IsOnProgram (task.Upgrade parts) = ⊥
 IsOnProgram (task.Config what parts trace) = ⊥
 
 -- what is known of the text: a program is within its limit, that of `selfrun` is its own, and a configuration has the parts
@@ -55,4 +58,5 @@ abbrev pub IsReadFor : Target → Task → List ℕ → Type 0
 IsReadFor target task.Compile text = length text ≤ most_program
 IsReadFor target (task.Run trace) text = length text ≤ most_program
 IsReadFor target (task.SelfRun seed count) text = (text ≡ own_program target) × (length text ≤ most_program)
+IsReadFor target (task.Upgrade parts) text = TextOf target (parts_form parts) text
 IsReadFor target (task.Config what parts trace) text = TextOf target (parts_form parts) text

@@ -9,6 +9,7 @@ mod selfrun;
 mod serial;
 mod targets;
 mod task;
+mod upgrade;
 
 ghost use Rattle.std.specs.Prelude.{◌≡◌, ℕ, List, []};
 ghost use Rattle.probe_taps.specs.Taps.{tap_forms};
@@ -20,6 +21,7 @@ use crate::commands::program::with_program;
 use crate::commands::serial::serial;
 use crate::commands::targets::on_target;
 use crate::commands::task::{ConfigTask, Task};
+use crate::commands::upgrade::upgrade;
 use dom_finding::{Command, own_program};
 use dom_io::{Shelf, Sink};
 use dom_words::HashUnits;
@@ -75,5 +77,6 @@ pub(crate) fn perform<F: Shelf, S: Sink, H: HashUnits>(
             let what = ConfigTask::Probe(stage);
             with_config(alloc, what, files, shelf, sink, hash, taps)
         }
+        Command::Upgrade(config) => upgrade(alloc, config, shelf, sink, hash, taps),
     }
 }

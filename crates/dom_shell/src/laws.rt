@@ -2,10 +2,11 @@
 
 ghost use Rattle.std.specs.Prelude.{◌≡◌, ◌<◌, ℕ, List, Ok, Option, length, map};
 ghost use Rattle.banzai_config.specs.Action.{Entry};
-ghost use Rattle.banzai_config.specs.Legal.{Shape};
+ghost use Rattle.banzai_config.specs.Legal.{LegalFor, Shape};
 ghost use Rattle.banzai_config.specs.Parts.{PartsForm};
 ghost use Rattle.banzai_config.specs.Targets.{shape_of};
 ghost use Rattle.banzai_config.specs.declared.target.Target.{Target};
+ghost use Rattle.banzai_config.specs.declared.parts.Version.TheVariants.{One};
 ghost use Rattle.banzai_machine.specs.Alone.{packets_of};
 ghost use Rattle.config_text.specs.Fronts.{text_of};
 ghost use Rattle.dom_ast.specs.Resolved.{CheckedForm};
@@ -20,7 +21,9 @@ ghost use Rattle.probe_taps.specs.Taps.{TapForm};
 ghost use Rattle.trace_text.specs.Trace.{entries};
 ghost use Rattle.dom_shell.specs.Call.{IsResult, IsUnread};
 ghost use Rattle.dom_shell.specs.ExecIsRun.{HoldsCompiled, exec_words, run_words};
+ghost use Rattle.container_plan.specs.Shared.{shared};
 ghost use Rattle.dom_shell.specs.RunIsSerial.{IsSerialMoment, IsSerialRun};
+ghost use Rattle.dom_shell.specs.SharedRuns.{AreWhole, RunsAlike};
 
 /// Words, told files and taps have one status and one text.
 pub fn one_result()
@@ -63,4 +66,11 @@ pub fn compiled_text_is_a_configuration()
 pub fn exec_is_run()
     ensures exec { (hash : Hash) (taps : List TapForm) (files : List ℕ → Option (List ℕ)) (target : Target) (program config trace : List ℕ) → HoldsCompiled hash files target program config → (status : ℕ) (bytes : List ℕ) → IsResult hash taps (run_words target program trace) files status bytes → IsResult hash taps (exec_words config trace) files status bytes }
     ensures run { (hash : Hash) (taps : List TapForm) (files : List ℕ → Option (List ℕ)) (target : Target) (program config trace : List ℕ) → HoldsCompiled hash files target program config → (status : ℕ) (bytes : List ℕ) → IsResult hash taps (exec_words config trace) files status bytes → IsResult hash taps (run_words target program trace) files status bytes }
+{}
+
+/// A configuration of version one runs with shared containers, as `upgrade` puts it, as it runs without: over every list of
+/// packets and idle cycles and the drain the same packets leave in the same cycles, the same words stay in the arrays, and
+/// `exec` puts the same report.
+pub fn upgraded_runs_alike()
+    ensures { (s : Shape) (p : PartsForm) → LegalFor s p → LegalFor s (shared p) → p.version ≡ One → (hash : Hash) (entries : List Entry) → AreWhole p entries → RunsAlike hash p (shared p) entries }
 {}

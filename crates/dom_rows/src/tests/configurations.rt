@@ -24,7 +24,7 @@ void flowlet(struct Packet pkt) {
 }
 ";
 
-const FLOWLET_ON_PRAW_MEDIUM: &str = "banzai,1
+const FLOWLET_ON_PRAW_MEDIUM: &str = "banzai,2
 target,praw-medium
 field,sport
 field,dport
@@ -34,20 +34,20 @@ field,next_hop
 field,id
 array,last_time,8000,0
 array,saved_hop,8000,0
-containers,12
+containers,7
 stage,1
-hash,c6,hash3,10,c0,c1,c2
-hash,c7,hash2,8000,c0,c1
+hash,c3,hash3,10,c0,c1,c2
+hash,c4,hash2,8000,c0,c1
 stage,2
 atom,1
-slot,0,c7,c8,-,put,c2
+slot,0,c4,c5,-,put,c2
 stage,3
-bin,c9,sub,c2,c8
+bin,c6,sub,c2,c5
 stage,4
-bin,c10,gt,c9,#5
+bin,c5,gt,c6,#5
 stage,5
 atom,1
-slot,1,c7,-,c11,if,eq,c10,#0,keep,put,c6
+slot,1,c4,-,c6,if,eq,c5,#0,keep,put,c3
 stage,6
 stage,7
 stage,8
@@ -58,9 +58,9 @@ stage,12
 out,c0
 out,c1
 out,c2
+out,c3
 out,c6
-out,c11
-out,c7
+out,c4
 end
 ";
 
@@ -81,13 +81,13 @@ fn each_target(rt: HostRuntime) -> Result<(), Fail> {
     for template in templates {
         for (geometry, depth) in [("small", 4u32), ("medium", 12), ("large", 32)] {
             let command = format!(in alloc; "compile {template}-{geometry} p")?;
-            let mut text = format!(in alloc; "banzai,1\ntarget,{template}-{geometry}\n")?;
-            text.push_str("field,key\nfield,val\nfield,seen\narray,acc,64,0\ncontainers,4\n")?;
-            text.push_str("stage,1\natom,1\nslot,0,c0,c3,-,put,c1\n")?;
+            let mut text = format!(in alloc; "banzai,2\ntarget,{template}-{geometry}\n")?;
+            text.push_str("field,key\nfield,val\nfield,seen\narray,acc,64,0\ncontainers,3\n")?;
+            text.push_str("stage,1\natom,1\nslot,0,c0,c2,-,put,c1\n")?;
             for stage in 2..=depth {
                 text.push_str(format!(in alloc; "stage,{stage}\n")?.as_str())?;
             }
-            text.push_str("out,c0\nout,c1\nout,c3\nend\n")?;
+            text.push_str("out,c0\nout,c1\nout,c2\nend\n")?;
             let given = answered(alloc, command.as_str(), KEPT, TRACE)?;
             assert_eq!(rt; given.status, 0);
             assert_eq!(rt; given.held.as_slice(), text.as_bytes());

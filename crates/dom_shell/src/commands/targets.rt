@@ -10,6 +10,7 @@ use crate::commands::over::over_on;
 use crate::commands::run::run_on;
 use crate::commands::selfrun::selfrun_on;
 use crate::commands::task::Task;
+use crate::commands::upgrade::upgrade_on;
 use atom_traits::{AtomTemplate, IfElse, Nested, Pairs, Praw, Raw, Sub, Write};
 use banzai_config::{Geometry, Target, Template};
 use dom_io::{Shelf, Sink};
@@ -135,6 +136,9 @@ fn perform_on<
         Task::SelfRun { seed, count } => selfrun_on::<T, DEPTH, SL, SF, MUL, S, H>(
             alloc, target, seed, count, text, sink, hash,
         ),
+        Task::Upgrade(parts) => {
+            upgrade_on::<T, DEPTH, SL, SF, MUL, S>(alloc, target, parts, sink)
+        }
         Task::Config { what, parts, trace } => over_on::<T, DEPTH, SL, SF, MUL, F, S, H>(
             alloc, target, what, parts, trace, shelf, sink, hash, taps,
         ),

@@ -16,6 +16,8 @@ pub(crate) enum Task<'a> {
         seed: u32,
         count: u32,
     },
+    /// Put the configuration with this text, which has these parts, with shared containers.
+    Upgrade(Parts),
     /// Clock the configuration with this text, which has these parts, over the trace in the file of this name.
     Config {
         what: ConfigTask,

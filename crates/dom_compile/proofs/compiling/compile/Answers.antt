@@ -1,4 +1,4 @@
-use Rattle.std.proofs.Common.{nat_eq, not, map, subst, sym}
+use Rattle.std.proofs.Common.{nat_eq, not, map, refl, subst, sym, ◌∙◌}
 use Rattle.atom_match.specs.Atoms.{atom_form}
 use Rattle.banzai_config.specs.Checked.{shape_with}
 use Rattle.banzai_config.specs.Legal.{LegalFor}
@@ -7,7 +7,9 @@ use Rattle.dom_compile.specs.Answer.{IsCompileFault}
 use Rattle.dom_compile.specs.Layers.{of_plan}
 use Rattle.dom_compile.proofs.Causes.{plan_cause, whole_cause}
 use Rattle.dom_compile.proofs.Listed.{renamed_cause}
+use Rattle.compile_law.specs.Compiled.{compiled_parts}
 use Rattle.dom_compile.proofs.Names.{arrays_named, fields_named}
+use Rattle.dom_compile.proofs.Sharing.{shared_of}
 use Rattle.dom_compile.proofs.compiling.compile.Goals as goal
 
 pub returns-in_err-codelets-clause-refused : goal.returns-in_err-codelets-clause-refused
@@ -41,7 +43,8 @@ returns-clause-config g c =
         atoms_are = c.in_ok-codelets.ensures.atoms;
         shallow = c.in_ok-stages.ensures.shallow;
         placed = c.in_ok-stages.ensures.schedule;
-        parts_are = c.in_ok-configured.ensures.parts;
-        legal = subst (λ (p : PartsForm). LegalFor s p) (sym c.in_ok-configured.ensures.parts) c.in_ok-configured.ensures.legal;
+        unshared = c.in_ok-config.ensures.legal;
+        parts_are = c.in_ok-share.ensures.parts ∙ shared_of c.in_ok-config.config (compiled_parts c.in_ok-codelets.codelets g.row.DEPTH (map (atom_form g.T.AtomTemplate.trees_of) c.in_ok-codelets.atoms.list) c.in_ok-stages.stages) c.in_ok-config.ensures.parts refl;
+        legal = subst (λ (p : PartsForm). LegalFor s p) (sym c.in_ok-share.ensures.parts) c.in_ok-share.ensures.legal;
       },
     )
