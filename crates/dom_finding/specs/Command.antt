@@ -88,6 +88,7 @@ abbrev pub probe_of : List (List ℕ) → Option Command
 probe_of (config ∷ trace ∷ stage ∷ []) =
     if is_file config && is_file trace then option_map (λ n. probe (configs_named config trace) n) (number_in 1 32 stage) else None
 probe_of _ = None
+
 -- `CONFIG`
 abbrev pub upgrade_of : List (List ℕ) → Option Command
 upgrade_of (config ∷ []) = if is_file config then Some (upgrade config) else None
@@ -113,4 +114,4 @@ command_of (command ∷ words) =
     else (if is_same command (codes "probe") then probe_of words
     else (if is_same command (codes "upgrade") then upgrade_of words
     else (if is_same command (codes "selfrun") then selfrun_of words
-    else None))))))
+    else None)))))))
