@@ -1,5 +1,5 @@
 -- Parts whose values share containers have numbers below 2^32, where they had before.
-use Rattle.std.proofs.Common.{◌≡◌, ℕ, ◌≤◌, Bool, true, List, [], ◌∷◌, map, Option, Some, None, refl, sym, ap, ◌∙◌, subst, arith}
+use Rattle.std.proofs.Common.{◌≡◌, ℕ, ◌≤◌, true, List, [], ◌∷◌, map, Option, Some, None, refl, arith}
 use Rattle.std.specs.List.{list_all}
 use Rattle.std.specs.Option.{option_map}
 use Rattle.std.proofs.lemmas.Bool.{and_from, and_parts, lt-ltb}
@@ -15,7 +15,7 @@ use Rattle.atom_traits.specs.declared.tree.Source.TheVariants as source
 use Rattle.atom_traits.specs.Form.{TreeForm, TreesForm, Ends, Asks}
 use Rattle.atom_traits.specs.Operation.{operation_renamed, ports_of}
 use Rattle.atom_traits.specs.Renamed.{guard_renamed, leaf_renamed, port_renamed, renamed, second_renamed, source_renamed, tree_renamed}
-use Rattle.atom_traits.specs.Tests.{second_passes, tree_passes}
+use Rattle.atom_traits.specs.Tests.{second_passes}
 use Rattle.banzai_config.specs.declared.parts.OpAtom.{OpAtom}
 use Rattle.banzai_config.specs.declared.parts.PartSlot.{PartSlot}
 use Rattle.banzai_config.specs.Legal.{LegalFor, Shape}

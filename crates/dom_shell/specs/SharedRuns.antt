@@ -1,5 +1,5 @@
 -- Two configurations that run alike.
-use Rattle.std.specs.Prelude.{◌≡◌, ℕ, List, ◌++◌, length}
+use Rattle.std.specs.Prelude.{◌≡◌, List, ◌++◌, length}
 use Rattle.std.specs.List.{AllByRecursion}
 use Rattle.dom_words.specs.State.{Hash}
 use Rattle.banzai_config.specs.Action.{Entry}

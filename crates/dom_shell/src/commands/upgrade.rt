@@ -74,13 +74,11 @@ pub(crate) fn upgrade_on<
 }
 
 // The text of the configuration with these parts, if they are legal, with shared containers.
-fn upgraded<
-    T: AtomTemplate,
-    const DEPTH: usize,
-    const SL: usize,
-    const SF: usize,
-    const MUL: bool,
->(alloc: Global, target: Target, parts: Parts) -> Result<Vec<u8>, Stop>
+fn upgraded<T: AtomTemplate, const DEPTH: usize, const SL: usize, const SF: usize, const MUL: bool>(
+    alloc: Global,
+    target: Target,
+    parts: Parts,
+) -> Result<Vec<u8>, Stop>
     requires depth { (1 ≤ DEPTH) × (DEPTH ≤ 65535) }
     requires stateless { (1 ≤ SL) × (SL ≤ 65535) }
     requires stateful { (1 ≤ SF) × (SF ≤ 65535) }
