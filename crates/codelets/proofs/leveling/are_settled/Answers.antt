@@ -1,4 +1,4 @@
-use Rattle.std.proofs.Common.{◌≤◌, sym, subst, ap, arith}
+use Rattle.std.proofs.Common.{◌≤◌, arith}
 use Rattle.codelets.specs.Lists.{max_of}
 use Rattle.codelets.proofs.Rounds.{small_by_max}
 use Rattle.codelets.proofs.leveling.are_settled.Goals as goal

@@ -1,4 +1,4 @@
-use Rattle.std.proofs.Common.{◌≡◌, ◌<◌, ◌∙◌, ℕ, List, sym, ap, arith, get_or, max}
+use Rattle.std.proofs.Common.{◌∙◌, ℕ, List, sym, ap, arith, get_or, max}
 use Rattle.std.specs.Prelude.{slice_index}
 use Rattle.codelets.proofs.Rounds.{max_at_more}
 use Rattle.codelets.proofs.leveling.best.Goals as goal

@@ -1,4 +1,4 @@
-use Rattle.std.proofs.Common.{◌≡◌, ◌<◌, ◌≤◌, ◌+◌, ◌*◌, ◌∙◌, ℕ, suc, List, [], length, map, sym, subst, ap, arith}
+use Rattle.std.proofs.Common.{◌≡◌, ◌<◌, ◌≤◌, ◌+◌, ◌*◌, ◌∙◌, ℕ, suc, List, [], map, sym, subst, ap, arith}
 use Rattle.std.specs.Prelude.{slice_index}
 use Rattle.codelets.specs.Cut.{uses_codelet, longest}
 use Rattle.codelets.specs.ByRows.{cut_by}
