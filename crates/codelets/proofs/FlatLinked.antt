@@ -1,5 +1,5 @@
 -- A statement list is linked, and its graph's rows are its reach.
-use Rattle.std.proofs.Common.{◌≡◌, ℕ, ◌<◌, ◌&&◌, Bool, nat_lt, List, length, sym, ◌∙◌, ap, subst}
+use Rattle.std.proofs.Common.{◌≡◌, ℕ, ◌&&◌, nat_lt, List, length, sym, ◌∙◌, ap, subst}
 use Rattle.dom_flat.specs.declared.flat.Flat.{Flat}
 use Rattle.dep_graph.specs.Leads.{leads}
 use Rattle.dep_graph.specs.Rows.{cell}

@@ -1,13 +1,13 @@
 -- The codelets of a statement list are leveled.
-use Rattle.std.proofs.Common.{◌≡◌, ℕ, zero, suc, ◌+◌, ◌*◌, ◌<◌, ◌≤◌, Bool, true, List, [], ◌∷◌, Some, length, map, get_or, refl, sym, ap, ◌∙◌, subst, arith, inl, inr}
-use Rattle.std.specs.Prelude.{slice_get, slice_index, slice_index_or}
+use Rattle.std.proofs.Common.{◌≡◌, ℕ, zero, suc, ◌+◌, ◌*◌, ◌<◌, ◌≤◌, true, List, [], ◌∷◌, Some, length, map, get_or, refl, sym, ap, ◌∙◌, subst, arith, inl, inr}
+use Rattle.std.specs.Prelude.{slice_get, slice_index_or}
 use Rattle.std.specs.List.{All, filter, range_with_len}
 use Rattle.std.proofs.lemmas.List.{length-map}
 use Rattle.std.proofs.lemmas.Option.{get_or_from_slice_get, slice_get-get_or}
 use Rattle.codelets.specs.declared.codelet.Codelet.{Codelet}
 use Rattle.codelets.specs.Lists.{IsIn, max_of}
 use Rattle.codelets.specs.Linked.{Linked, IsLinked}
-use Rattle.codelets.specs.Cut.{Cut, cut, in_order, level, uses_codelet}
+use Rattle.codelets.specs.Cut.{cut, in_order, level, uses_codelet}
 use Rattle.codelets.specs.Answer.{codelet_of, codelets, used}
 use Rattle.codelets.specs.Leveled.{AreLeveled, level_at}
 use Rattle.codelets.proofs.Lists.{at_in, at_within, filter_in, in_filter, in_range, range_in}

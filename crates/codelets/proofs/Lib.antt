@@ -21,6 +21,7 @@ pub mod Rounds
 pub mod Firsts
 pub mod Ordered
 pub mod Onces
+pub mod MarkedUses
 pub mod Tight
 pub mod AllLaws
 pub mod Sampler

@@ -1,11 +1,12 @@
 -- Levels round by round.
-use Rattle.std.proofs.Common.{◌≡◌, ℕ, zero, suc, ◌+◌, ◌<◌, ◌≤◌, Bool, true, false, cond, List, [], ◌∷◌, ◌++◌, length, map, get_or, take, refl, sym, ap, ◌∙◌, subst, arith, if◌then◌else◌, max}
+use Rattle.std.proofs.Common.{◌≡◌, ℕ, zero, suc, ◌+◌, ◌<◌, ◌≤◌, Bool, true, false, cond, List, [], ◌∷◌, ◌++◌, length, map, get_or, take, refl, sym, ap, ◌∙◌, subst, arith, inl, inr, max}
 use Rattle.std.specs.Prelude.{◌-◌, ◌*◌, slice_index, slice_index_or}
 use Rattle.std.proofs.Math.Nat.{mul-le-mul_left}
 use Rattle.std.specs.List.{All, filter, range_with_len}
-use Rattle.std.proofs.lemmas.List.{length-map}
 use Rattle.std.proofs.lemmas.List.Elements.{All-map}
-use Rattle.codelets.specs.Lists.{level_by, max_of}
+use Rattle.codelets.specs.Lists.{IsIn, level_by, max_of}
+use Rattle.codelets.proofs.Levels.{filter_same, le_max_of}
+use Rattle.codelets.proofs.Lists.{in_filter}
 
 -- the greatest at one place more
 pub max_at_more : (f : ℕ → ℕ) (xs : List ℕ) (k : ℕ) → k < length xs → max_of (map f (take (k + 1) xs)) ≡ max (max_of (map f (take k xs))) (f (get_or xs k 0))
@@ -109,6 +110,35 @@ module _ {X : Type 0} where
   next_round uses all d k levels next lists is now made =
       let one : suc k ≡ k + 1 = omega arith in
       made ∙ ap (λ (rs : List (List ℕ)). map (λ us. suc (max_of (map (slice_index levels) us))) rs) is ∙ round_levels uses all d k levels now ∙ ap (λ (j : ℕ). map (level_by uses all j) all) one
+
+module _ {X : Type 0} (uses : X → X → Bool) (all : List X) (d : X) (levels : List ℕ) where
+  -- what a round makes of numbers at an element
+  abbrev made : X → ℕ
+  made c = suc (max_of (map (slice_index levels) (places_of (uses c) all d)))
+
+  -- where a round leaves numbers as they are, they are the levels at enough fuel
+  settled_level : levels ≡ map made all → (n : ℕ) (c : X) → made c ≤ suc n → level_by uses all n c ≡ made c
+  settled_level is zero c h = omega arith
+  settled_level is (suc n) c h =
+      let here : made c ≡ suc (max_of (map made (filter (uses c) all))) =
+      ap (λ (ls : List ℕ). suc (max_of (map (slice_index ls) (places_of (uses c) all d)))) is ∙ ap suc (max_listed (uses c) made all d) in
+      ap (λ (ls : List ℕ). suc (max_of ls)) (filter_same (level_by uses all n) made (uses c) all (λ x i u. let lt = le_max_of made (filter (uses c) all) x (in_filter (uses c) all x i u) in settled_level is n x (omega arith))) ∙ sym here
+
+  map_in_same : (f g : X → ℕ) (xs : List X) → ((x : X) → IsIn x xs → f x ≡ g x) → map f xs ≡ map g xs
+  map_in_same f g [] each = refl
+  map_in_same f g (x ∷ xs) each = let head : f x ≡ g x = each x (inl refl) in let tail : map f xs ≡ map g xs = map_in_same f g xs (λ y i. each y (inr i)) in cc (head, tail)
+
+  pub settled_levels : (lists : List (List ℕ)) → lists ≡ map (λ c. places_of (uses c) all d) all → levels ≡ map (λ us. suc (max_of (map (slice_index levels) us))) lists
+      → (n : ℕ) → max_of levels ≤ n → levels ≡ map (level_by uses all n) all
+  settled_levels lists is same n most =
+      let each : levels ≡ map made all = same ∙ ap (map (λ us. suc (max_of (map (slice_index levels) us)))) is ∙ map_map (λ us. suc (max_of (map (slice_index levels) us))) (λ c. places_of (uses c) all d) all in
+      let top : max_of (map made all) ≤ n = subst (λ (ls : List ℕ). max_of ls ≤ n) each most in
+      each ∙ sym (map_in_same (level_by uses all n) made all (λ x i. let le = le_max_of made all x i in settled_level each n x (omega arith)))
+
+pub small_by_max : (xs : List ℕ) (m : ℕ) → max_of xs ≤ m → m < 1000000 → All (λ l. l < 1000000) xs
+small_by_max [] m le small k d h = absurd (omega arith)
+small_by_max (x ∷ xs) m le small zero d h = omega arith
+small_by_max (x ∷ xs) m le small (suc k) d h = small_by_max xs m (omega arith) small k d (omega arith)
 
 pub square_small : (m : ℕ) → m ≤ 512 → (m + 1) * (m + 1) < 300000
 square_small m h = let r : (m + 1) * (m + 1) ≤ (m + 1) * 513 = mul-le-mul_left (m + 1) (omega arith) in omega arith

@@ -1,5 +1,5 @@
 -- A statement with twins for operands makes the same word, and a twin makes its original's word.
-use Rattle.std.proofs.Common.{◌≡◌, ℕ, ◌+◌, ◌-◌, ◌<◌, ◌≤◌, Bool, true, false, nat_lt, List, [], ◌∷◌, Option, Some, None, length, map, refl, sym, ap, ◌∙◌, arith, inl, inr, if◌then◌else◌}
+use Rattle.std.proofs.Common.{◌≡◌, ℕ, ◌+◌, ◌-◌, ◌<◌, ◌≤◌, Bool, true, false, nat_lt, List, [], ◌∷◌, Option, Some, None, length, refl, sym, ap, ◌∙◌, arith, inl, inr, if◌then◌else◌}
 use Rattle.std.specs.Prelude.{slice_get}
 use Rattle.std.specs.List.{AllByRecursion as Every}
 use Rattle.std.proofs.lemmas.Bool.{ltb-false, lt-ltb, le-ltb}
@@ -7,7 +7,6 @@ use Rattle.dom_words.specs.State.{Hash}
 use Rattle.dom_flat.specs.declared.line.Operand.{Operand}
 use Rattle.dom_flat.specs.declared.line.Operand.TheVariants.{Const, Value}
 use Rattle.dom_flat.specs.declared.line.Line.{Line}
-use Rattle.dom_flat.specs.declared.line.Line.TheVariants as line
 use Rattle.dom_flat.specs.Lines.{operands_of, with_operands}
 use Rattle.dom_flat.specs.Meaning.{operand_word, line_word, Makes}
 use Rattle.dom_flat.proofs.Run.{line_word-with}

@@ -1,6 +1,5 @@
 -- Codelets as they are answered.
-use Rattle.std.specs.Prelude.{ℕ, List, [], length, map, Option, Some, None, slice_index, slice_index_or, if◌then◌else◌}
-use Rattle.std.specs.List.{filter, range_with_len}
+use Rattle.std.specs.Prelude.{ℕ, List, map, Option, Some, None, slice_index, slice_index_or, if◌then◌else◌}
 use Rattle.dom_flat.specs.declared.line.Line.{Line}
 use Rattle.codelets.specs.declared.codelet.Codelet.{Codelet}
 use Rattle.codelets.specs.declared.codelet.Slot.{Slot}

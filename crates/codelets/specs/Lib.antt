@@ -8,4 +8,5 @@ pub mod Extended
 pub mod Flat
 pub mod ByRows
 pub mod Leveled
+pub mod Marks
 pub mod Laws

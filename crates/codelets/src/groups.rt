@@ -135,15 +135,15 @@ pub fn in_state(flat: &Flat, graph: &Graph, numbers: &[u32], a: u32) -> bool
     any_flank_beside(flat, graph, numbers, a)
 }
 
-// Whether a number is together with a statement, and a flank.
+// Whether a number is that of a flank, and together with a statement.
 fn is_flank_beside(flat: &Flat, graph: &Graph, a: u32, b: u32) -> bool
-    ensures { result ≡ (together (linked_by flat.now graph.now) a b && is_so (linked_by flat.now graph.now) is_flank b) }
+    ensures { result ≡ (is_so (linked_by flat.now graph.now) is_flank b && together (linked_by flat.now graph.now) a b) }
 {
-    are_together(flat, graph, a, b) && flank_at(flat, graph, b)
+    flank_at(flat, graph, b) && are_together(flat, graph, a, b)
 }
 
 fn any_flank_beside(flat: &Flat, graph: &Graph, numbers: &[u32], a: u32) -> bool
-    ensures { result ≡ list_any (λ b. together (linked_by flat.now graph.now) a b && is_so (linked_by flat.now graph.now) is_flank b) numbers.now }
+    ensures { result ≡ list_any (λ b. is_so (linked_by flat.now graph.now) is_flank b && together (linked_by flat.now graph.now) a b) numbers.now }
 {
     numbers.iter().any(|b| is_flank_beside(flat, graph, a, *b))
 }
@@ -227,15 +227,15 @@ fn is_stored(flat: &Flat, graph: &Graph, numbers: &[u32], a: u32) -> bool
     any_store_beside(flat, graph, numbers, a, value)
 }
 
-// Whether a number is together with a statement, and a write flank that stores a value.
+// Whether a number is that of a write flank that stores a value, and together with a statement.
 fn is_store_beside(flat: &Flat, graph: &Graph, a: u32, b: u32, value: u32) -> bool
-    ensures { result ≡ (together (linked_by flat.now graph.now) a b && is_so (linked_by flat.now graph.now) (stores value) b) }
+    ensures { result ≡ (is_so (linked_by flat.now graph.now) (stores value) b && together (linked_by flat.now graph.now) a b) }
 {
-    are_together(flat, graph, a, b) && stores_at(flat, graph, b, value)
+    stores_at(flat, graph, b, value) && are_together(flat, graph, a, b)
 }
 
 fn any_store_beside(flat: &Flat, graph: &Graph, numbers: &[u32], a: u32, value: u32) -> bool
-    ensures { result ≡ list_any (λ b. together (linked_by flat.now graph.now) a b && is_so (linked_by flat.now graph.now) (stores value) b) numbers.now }
+    ensures { result ≡ list_any (λ b. is_so (linked_by flat.now graph.now) (stores value) b && together (linked_by flat.now graph.now) a b) numbers.now }
 {
     numbers
         .iter()

@@ -72,7 +72,7 @@ fn other_uses(
     requires { table.now ≡ lines_by_number (cut_by flat.now graph.now) }
     ensures { result ≡ (not (meet piece.now c.now) && list_any (line_uses (cut_by flat.now graph.now) value) piece.now) }
 {
-    !meets(piece.as_slice(), c) && piece_uses(flat, graph, table, piece.as_slice(), value)
+    piece_uses(flat, graph, table, piece.as_slice(), value) && !meets(piece.as_slice(), c)
 }
 
 fn any_other_uses(

@@ -1,4 +1,4 @@
-ghost use Rattle.std.specs.Prelude.{◌≡◌, ◌+◌, ◌<◌, ◌≤◌, IfOk, length, map, max, slice_index, suc};
+ghost use Rattle.std.specs.Prelude.{◌≡◌, ◌+◌, ◌<◌, ◌≤◌, IfOk, true, length, map, max, slice_index, suc};
 ghost use Rattle.std.specs.Bool.{OnTrue};
 ghost use Rattle.std.specs.List.{All};
 ghost use Rattle.codelets.specs.Cut.{in_order, level};
@@ -24,9 +24,8 @@ fn level_of(levels: &[u32], place: u32) -> u32
 
 // The greatest level at places.
 fn best(places: &[u32], levels: &[u32]) -> u32
-    requires { All (λ l. l < 1000000) levels.now }
     ensures value { result ≡ max_of (map (slice_index levels.now) places.now) }
-    ensures low { result < 1000000 }
+    ensures low { All (λ l. l < 1000000) levels.now → result < 1000000 }
 {
     let mut best = 0;
     for place in places {
@@ -83,8 +82,33 @@ fn ones(alloc: Global, pieces: &Pieces) -> Result<Vec<u32>, Memory>
     Ok(levels)
 }
 
-/// The level of each codelet, by number.
-pub fn find_levels(
+// One sweep by number: the level of each codelet becomes 1 more than the greatest of those that it uses. Whether one has
+// changed.
+fn sweep(lists: &Pieces, levels: &mut [u32]) -> bool {
+    let mut has_changed = false;
+    for k in 0..lists.len() {
+        let level = best(lists.get(k).as_slice(), levels).saturating_add(1);
+        if k < levels.len() && levels[k] != level {
+            levels[k] = level;
+            has_changed = true;
+        }
+    }
+    has_changed
+}
+
+// Numbers that mostly are the levels: what sweeps come to.
+fn guessed(alloc: Global, pieces: &Pieces, lists: &Pieces) -> Result<Vec<u32>, Memory> {
+    let mut levels = ones(alloc, pieces)?;
+    for _k in 0..lists.len() {
+        if !sweep(lists, levels.as_mut_slice()) {
+            return Ok(levels);
+        }
+    }
+    Ok(levels)
+}
+
+// The levels, by rounds until one changes nothing.
+fn levels_by_rounds(
     alloc: Global,
     flat: &Flat,
     graph: &Graph,
@@ -105,6 +129,39 @@ pub fn find_levels(
         levels = next;
     }
     Ok(levels)
+}
+
+// Whether numbers are what one round makes of them, and none is greater than `most`.
+fn are_settled(alloc: Global, lists: &Pieces, levels: &[u32], most: u32) -> Result<bool, Memory>
+    requires { most < 1000000 }
+    ensures { IfOk result (λ is_so. is_so ≡ true → (max_of levels.now ≤ most) × (levels.now ≡ map (λ us. suc (max_of (map (slice_index levels.now) us))) lists.now)) }
+{
+    if most < greatest(levels) {
+        return Ok(false);
+    }
+    let next = round(alloc, lists, levels)?;
+    Ok(is_same(next.as_slice(), levels))
+}
+
+/// The level of each codelet, by number.
+pub fn find_levels(
+    alloc: Global,
+    flat: &Flat,
+    graph: &Graph,
+    pieces: &Pieces,
+    lists: &Pieces,
+) -> Result<Vec<u32>, Memory>
+    requires pieces { pieces.now ≡ (cut_by flat.now graph.now).all }
+    requires lists { lists.now ≡ use_lists (cut_by flat.now graph.now) }
+    ensures { IfOk result (λ v. v.items ≡ map (level (cut_by flat.now graph.now)) (cut_by flat.now graph.now).all) }
+{
+    let side = flat.lines.len() as u32 + 1;
+    let levels = guessed(alloc, pieces, lists)?;
+    if are_settled(alloc, lists, levels.as_slice(), side * side)? {
+        Ok(levels)
+    } else {
+        levels_by_rounds(alloc, flat, graph, pieces, lists)
+    }
 }
 
 // A copy of a codelet's numbers.

@@ -8,6 +8,7 @@ mod held;
 pub mod laws;
 mod leveling;
 mod listing;
+mod marks;
 mod operands;
 mod pieces;
 mod places;

@@ -4,9 +4,11 @@ ghost use Rattle.codelets.specs.Cut.{line_uses, lines_by_number, used_in, uses_c
 ghost use Rattle.codelets.specs.ByRows.{cut_by, linked_by, use_lists};
 ghost use Rattle.codelets.specs.Linked.{twins_of};
 ghost use Rattle.codelets.specs.Lists.{meet};
+ghost use Rattle.codelets.specs.Marks.{AreMarks};
 
-use crate::groups::{class_with, is_in, is_least, value_of};
-use crate::table::{Table, number_uses};
+use crate::groups::{class_with, is_in, is_least};
+use crate::marks::{Marks, any_marked, used_marks};
+use crate::table::Table;
 use dep_graph::Graph;
 use dom_flat::Flat;
 use dom_words::{Memory, Numbers, Seq};
@@ -58,31 +60,13 @@ pub fn meets(c: &[u32], d: &[u32]) -> bool
     c.iter().any(|number| is_in(d, *number))
 }
 
-// Whether the statement with a number uses a value that a codelet makes.
-fn number_uses_any(flat: &Flat, graph: &Graph, table: &Table, d: &[u32], number: u32) -> bool
-    requires table { table.now ≡ lines_by_number (cut_by flat.now graph.now) }
-    requires small { All (λ a. a < 1024) d.now }
-    ensures { result ≡ list_any (λ a. line_uses (cut_by flat.now graph.now) (length flat.now.fields + a) number) d.now }
-{
-    d.iter().any(|a| number_uses(flat, graph, table, value_of(flat, *a), number))
-}
-
-// Whether a statement of a codelet uses a value that another makes.
-fn any_uses_any(flat: &Flat, graph: &Graph, table: &Table, c: &[u32], d: &[u32]) -> bool
-    requires table { table.now ≡ lines_by_number (cut_by flat.now graph.now) }
-    requires small { All (λ a. a < 1024) d.now }
-    ensures { result ≡ list_any (λ b. list_any (λ a. line_uses (cut_by flat.now graph.now) (length flat.now.fields + a) b) d.now) c.now }
-{
-    c.iter().any(|b| number_uses_any(flat, graph, table, d, *b))
-}
-
-/// Whether a codelet uses another.
-pub fn uses_piece(flat: &Flat, graph: &Graph, table: &Table, c: &[u32], d: &[u32]) -> bool
-    requires table { table.now ≡ lines_by_number (cut_by flat.now graph.now) }
+// Whether a codelet uses another, where the values that it uses are marked.
+fn uses_piece(flat: &Flat, graph: &Graph, marks: &Marks, c: &[u32], d: &[u32]) -> bool
+    requires marks { AreMarks (length flat.now.fields) (λ v. list_any (line_uses (cut_by flat.now graph.now) v) c.now) marks.now }
     requires small { All (λ a. a < 1024) d.now }
     ensures { result ≡ uses_codelet (cut_by flat.now graph.now) c.now d.now }
 {
-    any_uses_any(flat, graph, table, c, d) && !meets(c, d)
+    any_marked(marks, d) && !meets(c, d)
 }
 
 /// The places of the codelets that a codelet uses in a list of codelets.
@@ -99,9 +83,10 @@ pub fn used_places(
     requires few { length list.now < 4294967296 }
     ensures { IfOk result (λ ks. ks ≡ used_in (cut_by flat.now graph.now) list.now c.now) }
 {
+    let marks = used_marks(flat, graph, table, c);
     let mut places = Seq::new(alloc);
     for k in 0..list.len() {
-        if uses_piece(flat, graph, table, c, list.get(k).as_slice()) {
+        if uses_piece(flat, graph, &marks, c, list.get(k).as_slice()) {
             places.push(k as u32)?;
         }
     }

@@ -2,3 +2,4 @@ pub mod Warshall
 pub mod Joined
 pub mod Marked
 pub mod Through
+pub mod Earlier

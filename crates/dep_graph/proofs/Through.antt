@@ -1,8 +1,8 @@
 -- Reach as a function is reach by walks, and there is one reach alone.
-use Rattle.std.proofs.Common.{◌≡◌, ℕ, ◌+◌, ◌<◌, Bool, true, false, ◌&&◌, List, [], ◌∷◌, nat_eq, nat_lt, refl, sym, ◌∙◌, ap, subst, arith, ◌⊎◌, inl, inr, ⊎_elim, ◌≤◌}
-use Rattle.std.specs.Prelude.{◌||◌, zero, suc}
-use Rattle.std.proofs.lemmas.Bool.{and_parts, and_from, or_left, or_right, eq-eqb, eqb-true, lt-ltb, ltb-true, le-ltb, cases_lt}
-use Rattle.dep_graph.specs.Walk.{Reaches, IsReach, IsPassed, reaches_through, reaches_among}
+use Rattle.std.proofs.Common.{◌≡◌, ℕ, ◌<◌, Bool, true, false, ◌&&◌, [], ◌∷◌, nat_eq, nat_lt, refl, subst, arith, ⊎_elim, ◌≤◌}
+use Rattle.std.specs.Prelude.{zero, suc}
+use Rattle.std.proofs.lemmas.Bool.{and_parts, and_from, or_left, or_right, eq-eqb, eqb-true, lt-ltb, ltb-true}
+use Rattle.dep_graph.specs.Walk.{IsReach, IsPassed, reaches_through, reaches_among}
 use Rattle.dep_graph.proofs.Warshall.{or_parts, passed_all, passed_next}
 
 -- two tests that agree everywhere are one

@@ -1,11 +1,9 @@
-use Rattle.std.proofs.Common.{◌≡◌, ◌≤◌, ◌+◌, ◌*◌, ℕ, List, length, sym, ◌∙◌, subst, ap, arith, map}
-use Rattle.codelets.specs.declared.codelet.Codelet.{Codelet}
+use Rattle.std.proofs.Common.{◌≤◌, ◌+◌, ◌*◌, length, sym, ◌∙◌, subst, ap, arith, map}
 use Rattle.codelets.specs.Linked.{Linked}
-use Rattle.codelets.specs.Cut.{cut, in_order, lines_by_number, outer}
+use Rattle.codelets.specs.Cut.{cut, lines_by_number, outer}
 use Rattle.codelets.specs.Answer.{codelets}
 use Rattle.codelets.specs.Containers.{holders}
 use Rattle.codelets.specs.Flat.{linked_of}
-use Rattle.codelets.specs.ByRows.{linked_by}
 use Rattle.codelets.specs.Leveled.{AreLeveled}
 use Rattle.codelets.proofs.FlatLinked.{flat_linked, linked_rows}
 use Rattle.codelets.proofs.Leveled.{are_leveled, codelets_few}
