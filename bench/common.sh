@@ -13,20 +13,97 @@ if [ ! -x "$program" ]; then
     exit 0
 fi
 mkdir -p "$top/bench/data" && cd "$top/bench/data" || exit 0
+. "$top/bench/programs.sh"
 for source in measure "${@:2}"; do
     gcc -O2 -o "$source" "$top/bench/$source.c" || { echo "bench: gcc is wanted"; exit 0; }
 done
 
+# What `rounds` runs beside one another: the words of the program, and of the two programs in C, or none.
+ours=() theirs=() hand=()
+
+# rounds OUTPUT: runs ours, theirs and hand in turn, into that output or, where it is `file`, into ours.out, theirs.out and
+# hand.out. times.txt gets a line for each round: time and peak of each, 0 where there are no words or a run failed. There
+# are as many rounds as runs; less, but at least three, where they take over ROW_SECONDS; and one after LIMIT seconds.
+rounds() {
+    local round who output taken since=$SECONDS
+    for ((round = 0; round < runs; round++)); do
+        ((round >= 3 && SECONDS - since >= ${ROW_SECONDS:-100000} || round >= 1 && SECONDS >= ${LIMIT:-100000})) && break
+        for who in ours theirs hand; do
+            local -n words="$who"
+            taken=""
+            [ "$1" = file ] && output="$who.out" || output="$1"
+            [ ${#words[@]} = 0 ] || taken="$(./measure "$output" "${words[@]}")"
+            printf '%s ' "${taken:-0 0}"
+        done
+        echo
+    done >times.txt
+}
+
+# agree: whether the programs of `rounds file` put the same bytes
+agree() {
+    { [ ${#theirs[@]} = 0 ] || cmp -s ours.out theirs.out; } && { [ ${#hand[@]} = 0 ] || cmp -s ours.out hand.out; }
+}
+
+# summed: of times.txt the best times of ours, theirs and hand in microseconds, the medians of the ratios of neighbouring
+# runs to theirs and to hand, and the three greatest peaks in KiB; 0 where there is nothing
+summed() {
+    awk '
+        function median(list, size,    k, j, value) {
+            for (k = 2; k <= size; k++) {
+                value = list[k]
+                for (j = k - 1; j >= 1 && list[j] > value; j--) list[j + 1] = list[j]
+                list[j + 1] = value
+            }
+            return size ? list[int((size + 1) / 2)] : 0
+        }
+        {
+            for (k = 1; k <= 5; k += 2) {
+                if ($k && (!best[k] || $k < best[k])) best[k] = $k
+                if ($(k + 1) > peak[k]) peak[k] = $(k + 1)
+            }
+            if ($1 && $3) to_theirs[++pairs] = $1 / $3
+            if ($1 && $5) to_hand[++others] = $1 / $5
+        }
+        END {
+            print best[1] + 0, best[3] + 0, best[5] + 0, median(to_theirs, pairs), median(to_hand, others), peak[1] + 0,
+                peak[3] + 0, peak[5] + 0
+        }' times.txt
+}
+
+# counted WORD..: the instructions that these words take
+counted() {
+    valgrind --tool=callgrind --trace-children=yes --callgrind-out-file=/dev/null "$@" 2>&1 >/dev/null |
+        sed -n 's/.*Collected : *//p'
+}
+
+# instructions TRACE WORD..: those for a packet, of the difference between the first 10,000 packets of the trace and the first
+# 1,000; count.csv stands for these in the words
+instructions() {
+    local size least all
+    for size in 1000 10000; do
+        head -n $((size + 1)) "$1" >count.csv
+        least="${all:-0}"
+        all="$(counted "${@:2}")"
+    done
+    echo $(((${all:-0} - ${least:-0}) / 9000))
+}
+
 # taken WORD..: what the program takes with these words, start-up included, in that unit
 taken() {
-    local times="" run
     if [ "${COUNT:-0}" = 1 ]; then
-        valgrind --tool=callgrind --callgrind-out-file=/dev/null "$program" "$@" 2>&1 >/dev/null | sed -n 's/.*Collected : *//p'
+        counted "$program" "$@"
     else
-        for ((run = 0; run < runs; run++)); do times+="$(ANY_STATUS=1 ./measure taken.out "$program" "$@")"$'\n'; done
-        printf '%s' "$times" | awk '{ if (least == "" || $1 < least) least = $1 } END { printf "%.2f", least / 1000 }'
-        rm -f taken.out
+        ours=("$program" "$@") theirs=() hand=()
+        ANY_STATUS=1 rounds taken.out
+        summed | awk '{ printf "%.2f", $1 / 1000 }'
+        rm -f taken.out times.txt
     fi
+}
+
+# traced NAME MIB HEADING: the name of that trace, which is made where it is not there
+traced() {
+    [ -s "$1-$2.csv" ] || trace "$3" $(($2 * 1024 * 1024)) >"$1-$2.csv"
+    echo "$1-$2.csv"
 }
 
 # trace HEADING BYTES: records until the bytes or 1,990,000 packets are reached, without gaps. RARE=1 makes one value of x in

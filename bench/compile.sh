@@ -7,34 +7,6 @@
 set -u
 . "$(dirname "${BASH_SOURCE[0]}")/common.sh" 9
 
-loose_program() { # so many statements in 64 chains
-    printf 'struct P {'
-    for ((k = 0; k < 64; k++)); do printf ' int f%d;' "$k"; done
-    printf ' };\nvoid loose(struct P p) {\n'
-    for ((k = 0; k < $1; k++)); do printf '  p.f%d = p.f%d + %d;\n' $((k % 64)) $((k % 64)) "$k"; done
-    printf '}\n'
-}
-
-class_program() { # the flanks, and all other statements between them
-    printf 'struct P { int x; };\nint s;\nvoid class(struct P p) {\n'
-    for ((k = 2; k < $1; k++)); do printf '  s = s * %d;\n' "$k"; done
-    printf '}\n'
-}
-
-chain_program() { # each statement uses the one before it
-    printf 'struct P { int x; };\nvoid chain(struct P p) {\n'
-    for ((k = 0; k < $1; k++)); do printf '  p.x = p.x + %d;\n' "$k"; done
-    printf '}\n'
-}
-
-choices_program() { # so many assignments behind 62 conditionals, each in the `else` of the one before
-    printf 'struct P { int x; };\nint s;\nvoid choices(struct P p) {\n'
-    for ((k = 0; k < 62; k++)); do printf 'if (p.x == %d) { } else ' "$k"; done
-    printf '{'
-    for ((k = 0; k < $1; k++)); do printf 's=%d;' "$k"; done
-    printf '}\n}\n'
-}
-
 # row NAME STATEMENTS PROGRAM
 row() {
     local out

@@ -1,11 +1,9 @@
 /* The same work as `domino run pairs-medium examples/conga.dom TRACE`, by hand: reads a trace whose columns are
    `gap,dst,util,path`, keeps the best path to each of two destinations, and writes the same report to standard output, each
    line with its own write(2). */
-#include "serial.h"
+#include "conga.h"
 
-enum { DEPTH = 12, DESTINATIONS = 2 };
-
-static uint32_t best_util[DESTINATIONS] = { 100, 100 }, best_path[DESTINATIONS];
+enum { DEPTH = 12 };
 
 int main(int argc, char **argv)
 {
@@ -15,13 +13,7 @@ int main(int argc, char **argv)
     put("cycle,dst,util,path\n", 20);
     for (; *text != 0; packets++) {
         text = numbers(text, row, 4);
-        uint32_t util = row[2], path = row[3], at = row[1] % DESTINATIONS;
-        if ((int32_t)util < (int32_t)best_util[at]) {
-            best_util[at] = util;
-            best_path[at] = path;
-        } else if (path == best_path[at]) {
-            best_util[at] = util;
-        }
+        conga(row);
         cycle += row[0];
         packet(cycle + DEPTH, row + 1, 3);
         cycle += 1;

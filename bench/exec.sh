@@ -9,42 +9,6 @@ set -u
 
 printf 'gap\n' >empty.csv
 
-# 64 fields, 32 arrays and so many containers; each stage has an atom with state and its share of operators, each of which
-# reads a field and writes a container of its own
-legal() {
-    awk -v containers="$1" 'BEGIN {
-        print "banzai,1"; print "target,pairs-large"
-        for (k = 0; k < 64; k++) print "field,f" k
-        for (k = 0; k < 32; k++) print "array,a" k ",1024,0"
-        print "containers," containers
-        next_container = 64
-        for (s = 1; s <= 32; s++) {
-            print "stage," s
-            last = 64 + int((containers - 64) * s / 32)
-            while (next_container < last) { print "bin,c" next_container ",add,c" next_container % 64 ",#-2000000000"; next_container++ }
-            print "atom,1"
-            print "slot," s - 1 ",c" s ",-,-,if,lt,c1,s0,if,eq,c2,#7,put,c3,add,c4,sub,c5"
-        }
-        for (k = 0; k < 64; k++) print "out,c" k
-        print "end"
-    }'
-}
-
-# so many bytes, or a few less: operators in one stage
-long() {
-    awk -v bytes="$1" 'BEGIN {
-        text = "banzai,1\ntarget,pairs-large\nfield,x\ncontainers,2048\nstage,1\n"
-        printf "%s", text; size = length(text)
-        rest = ""
-        for (s = 2; s <= 32; s++) rest = rest "stage," s "\n"
-        rest = rest "out,c0\nend\n"
-        for (k = 1; size + length(line = "bin,c" 1000 + k % 1000 ",add,c0,#" k "\n") + length(rest) <= bytes; k++) {
-            printf "%s", line; size += length(line)
-        }
-        printf "%s", rest
-    }'
-}
-
 # row NAME CONTAINERS CONFIG
 row() {
     local out

@@ -1,13 +1,24 @@
-/* interpreter CONFIG TRACE: clocks the machine of a configuration (its text, docs/FORMATS.md, "Configurations") over a
-   trace, and writes the report that `domino run` writes, each line with its own write(2). What `domino` proves, this
-   program only does: it checks of the two texts what it needs to read them, takes no quotes in a trace, and clocks while
-   it reads, so it keeps no packets.
+/* interpreter run CONFIG TRACE: clocks the machine of a configuration (its text of either version, docs/FORMATS.md,
+   "Configurations") over a trace, and writes the report that `domino run` writes, each line with its own write(2). What
+   `domino` proves, this program only does: it checks of the two texts what it needs to read them, takes no quotes in a
+   trace, and clocks while it reads, so it keeps no packets.
+
+   interpreter watch CONFIG TRACE writes the report of `domino watch` instead, and interpreter serial CONFIG TRACE that of
+   `domino serial`: there each packet goes through all atoms before the next one is read. interpreter selfrun CONFIG SEED
+   COUNT clocks over packets that it draws, and writes the summary of `domino selfrun`; the configuration is that of the
+   program that `selfrun` has.
 
    The machine is the same: a flat ring of as many places as there are stages, a flag for each, and a position that turns.
    Its atoms are decoded once, and a switch runs them. */
 #include "serial.h"
+#include <stdio.h>
 
-enum { MOST_FIELDS = 64, MOST_ARRAYS = 32, MOST_STAGES = 64, NONE = -1 };
+enum { MOST_FIELDS = 64, MOST_ARRAYS = 32, MOST_STAGES = 64, MOST_WIDTH = 2048, NONE = -1 };
+
+static enum { RUN, SERIAL, WATCH, SELFRUN } mode;
+
+/* For what `run` does not do: out of its way. */
+#define COLD __attribute__((cold, noinline)) void
 
 enum kind {
     NEG, INV, NOT, MUL, DIV, REM, ADD, SUB, SHL, SHR, LT, LE, GT, GE, EQ, NE, AND, XOR, OR, LAND, LOR, COND, HASH, STATE
@@ -39,7 +50,7 @@ struct tree {
 };
 
 struct slot {
-    uint32_t *words, length;
+    uint32_t *words, length, array;
     struct port index;
     int32_t old, new;
     struct tree *tree;
@@ -51,16 +62,27 @@ struct atom {
     int32_t to;
     struct port ports[4];
     uint32_t letter, count, modulus;
+    int stage;
     struct slot *slots;
 };
 
-static char *field_names[MOST_FIELDS], *array_names[MOST_ARRAYS];
+/* What an atom touched in a cycle that is watched. */
+struct touch {
+    int stage;
+    uint32_t array, index;
+};
+
+static char *target, *field_names[MOST_FIELDS], *array_names[MOST_ARRAYS];
 static uint32_t *arrays[MOST_ARRAYS], lengths[MOST_ARRAYS];
 static int places[MOST_ARRAYS];
 static struct port outputs[MOST_FIELDS];
 static struct atom *atoms;
 static int starts[MOST_STAGES + 1], busy[MOST_STAGES];
 static int fields, array_count, output_count, atom_count, depth, busy_count, width;
+static struct touch touches[MOST_ARRAYS];
+static int touch_count;
+static uint64_t cycle, packets;
+static uint32_t fold;
 
 static void *room(size_t size)
 {
@@ -148,6 +170,7 @@ static struct tree *tree_of(void)
 static void read_slot(struct slot *slot)
 {
     uint32_t array = number();
+    slot->array = array;
     slot->words = arrays[array];
     slot->length = lengths[array];
     slot->index = port();
@@ -162,6 +185,7 @@ static void read_atom(const char *line)
     struct atom *atom = &atoms[atom_count++];
     if (strcmp(line, "atom") == 0) {
         atom->kind = STATE;
+        atom->stage = depth;
         atom->slots = room(number() * sizeof(struct slot));
         return;
     }
@@ -199,7 +223,9 @@ static void read_line(char *line)
 {
     rest = line;
     const char *first = word();
-    if (strcmp(first, "field") == 0)
+    if (strcmp(first, "target") == 0)
+        target = name();
+    else if (strcmp(first, "field") == 0)
         field_names[fields++] = name();
     else if (strcmp(first, "array") == 0)
         read_array();
@@ -263,6 +289,14 @@ static uint32_t next(const struct tree *tree, int own, const uint32_t *old, cons
     }
 }
 
+static COLD touch(const struct atom *atom, uint32_t *const cells[2])
+{
+    for (uint32_t k = 0; k < atom->count; k++) {
+        const struct slot *slot = &atom->slots[k];
+        touches[touch_count++] = (struct touch){ atom->stage, slot->array, (uint32_t)(cells[k] - slot->words) };
+    }
+}
+
 static void run_state(const struct atom *atom, uint32_t *words)
 {
     uint32_t *cells[2], old[2], new[2];
@@ -271,6 +305,8 @@ static void run_state(const struct atom *atom, uint32_t *words)
         cells[k] = &slot->words[value(slot->index, words) % slot->length];
         old[k] = *cells[k];
     }
+    if (mode == WATCH)
+        touch(atom, cells);
     for (uint32_t k = 0; k < atom->count; k++)
         new[k] = next(atom->slots[k].tree, (int)k, old, words);
     for (uint32_t k = 0; k < atom->count; k++) {
@@ -307,7 +343,7 @@ static inline uint32_t remainder_of(uint32_t a, uint32_t b)
 #define C value(atom->ports[2], words)
 
 /* The atoms of a stage act one after another in the packet's place. */
-static void run_stage(const struct atom *atom, const struct atom *end, uint32_t *words)
+static inline __attribute__((always_inline)) void run_stage(const struct atom *atom, const struct atom *end, uint32_t *words)
 {
     for (; atom < end; atom++) {
         uint32_t *to = &words[atom->to];
@@ -344,9 +380,75 @@ static uint32_t *ring;
 static unsigned char *filled;
 static int newest, in_flight;
 
-/* One cycle. What enters is a word for each field, or NULL. */
-static void clock_once(uint64_t cycle, const uint32_t *entering)
+/* A line of a cycle that is watched: a word, a number where there is one, and words behind them. */
+static COLD watched(const char *first, int64_t number, const uint32_t *words, int count)
 {
+    static char line[12 * MOST_WIDTH + 64];
+    char *to = stpcpy(line, first);
+    if (number != NONE) {
+        *to++ = ',';
+        to = decimal(to, (uint64_t)number);
+    }
+    for (int k = 0; k < count; k++) {
+        *to++ = ',';
+        to = signed_decimal(to, words[k]);
+    }
+    *to++ = '\n';
+    put(line, (size_t)(to - line));
+}
+
+static COLD before_cycle(void)
+{
+    touch_count = 0;
+    watched("cycle", (int64_t)cycle, NULL, 0);
+}
+
+/* What stands after a cycle, and what was touched in it. */
+static COLD after_cycle(void)
+{
+    for (int k = 0; k < depth; k++) {
+        int at = newest + k < depth ? newest + k : newest + k - depth;
+        if (filled[at])
+            watched("reg", k, ring + (size_t)at * (size_t)width, width);
+    }
+    for (int k = 0; k < touch_count; k++) {
+        char line[128], *to = decimal(stpcpy(line, "touch,"), (uint64_t)touches[k].stage);
+        *to++ = ',';
+        to = stpcpy(to, array_names[touches[k].array]);
+        *to++ = ',';
+        to = decimal(to, touches[k].index);
+        *to++ = '\n';
+        put(line, (size_t)(to - line));
+    }
+}
+
+/* A packet leaves through the outputs; the number is the report's. */
+static void leave(uint64_t number, const uint32_t *words)
+{
+    uint32_t leaving[MOST_FIELDS];
+    for (int k = 0; k < fields; k++)
+        leaving[k] = value(outputs[k], words);
+    if (mode == RUN || mode == SERIAL)
+        packet(number, leaving, fields);
+    else if (mode == WATCH)
+        watched("out", NONE, leaving, fields);
+    else
+        for (int k = 0; k < fields; k++)
+            fold = 31 * fold + leaving[k];
+}
+
+/* A packet comes into a place, a word for each field. */
+static inline void enter(uint32_t *words, const uint32_t *entering)
+{
+    memcpy(words, entering, (size_t)fields * sizeof *words);
+    memset(words + fields, 0, (size_t)(width - fields) * sizeof *words);
+}
+
+/* One cycle. What enters is a word for each field, or NULL. */
+static void clock_once(const uint32_t *entering)
+{
+    if (mode == WATCH)
+        before_cycle();
     if (in_flight > 0)
         for (int j = 0; j < busy_count; j++) {
             int k = busy[j], at = newest + k < depth ? newest + k : newest + k - depth;
@@ -355,19 +457,32 @@ static void clock_once(uint64_t cycle, const uint32_t *entering)
         }
     int oldest = newest == 0 ? depth - 1 : newest - 1;
     uint32_t *words = ring + (size_t)oldest * (size_t)width;
-    if (filled[oldest]) {
-        uint32_t leaving[MOST_FIELDS];
-        for (int k = 0; k < fields; k++)
-            leaving[k] = value(outputs[k], words);
-        packet(cycle, leaving, fields);
-    }
+    if (filled[oldest])
+        leave(cycle, words);
     in_flight += (entering != NULL) - filled[oldest];
     filled[oldest] = entering != NULL;
-    if (entering != NULL) {
-        memcpy(words, entering, (size_t)fields * sizeof *words);
-        memset(words + fields, 0, (size_t)(width - fields) * sizeof *words);
-    }
+    if (entering != NULL)
+        enter(words, entering);
     newest = oldest;
+    if (mode == WATCH)
+        after_cycle();
+    cycle++;
+}
+
+/* A packet behind so many idle cycles; `serial` has no cycles. */
+static inline void take(uint32_t gap, const uint32_t *entering)
+{
+    packets++;
+    if (mode == SERIAL) {
+        enter(ring, entering);
+        for (int j = 0; j < busy_count; j++)
+            run_stage(atoms + starts[busy[j]], atoms + starts[busy[j] + 1], ring);
+        leave(packets, ring);
+        return;
+    }
+    for (uint32_t k = 0; k < gap; k++)
+        clock_once(NULL);
+    clock_once(entering);
 }
 
 /* Reads the heading of a trace: for each field its column, or 0, which is the column of the gap. */
@@ -387,7 +502,7 @@ static char *heading(char *text, int *columns, int *count)
 
 static void put_heading(void)
 {
-    char line[MOST_FIELDS * 80] = "cycle", *to = line + 5;
+    char line[MOST_FIELDS * 80], *to = stpcpy(line, mode == SERIAL ? "packet" : "cycle");
     for (int k = 0; k < fields; k++) {
         *to++ = ',';
         to = stpcpy(to, field_names[k]);
@@ -396,34 +511,68 @@ static void put_heading(void)
     put(line, (size_t)(to - line));
 }
 
-int main(int argc, char **argv)
+/* Takes the packets of a trace, and writes the report. */
+static void report(const char *path)
 {
-    if (argc != 3)
-        return 2;
-    read_configuration(text_of(argv[1]));
-    ring = room((size_t)depth * (size_t)width * sizeof *ring);
-    filled = room((size_t)depth);
-
     int columns[MOST_FIELDS] = { 0 }, count;
-    const char *text = heading(text_of(argv[2]), columns, &count);
+    const char *text = heading(text_of(path), columns, &count);
     uint32_t row[MOST_FIELDS + 1], entering[MOST_FIELDS];
-    uint64_t cycle = 0, packets = 0;
-    put_heading();
-    for (; *text != 0; packets++) {
+    if (mode != WATCH)
+        put_heading();
+    while (*text != 0) {
         text = numbers(text, row, count);
         for (int k = 0; k < fields; k++)
             entering[k] = columns[k] == 0 ? 0 : row[columns[k]];
-        for (uint32_t k = 0; k < row[0]; k++)
-            clock_once(cycle++, NULL);
-        clock_once(cycle++, entering);
+        take(row[0], entering);
     }
-    for (int k = 0; k < depth; k++)
-        clock_once(cycle++, NULL);
-    for (int k = 0; k < array_count; k++)
+    for (int k = 0; k < depth && mode != SERIAL; k++)
+        clock_once(NULL);
+    for (int k = 0; k < array_count && mode != WATCH; k++)
         state(array_names[k], arrays[k], lengths[k]);
-    for (int k = 0; k < array_count; k++)
+    for (int k = 0; k < array_count && mode == RUN; k++)
         if (places[k] != 0)
             place(array_names[k], places[k]);
-    done_after(packets, cycle);
+    if (mode == SERIAL)
+        done(packets);
+    else
+        done_after(packets, cycle);
+}
+
+/* Takes packets that are drawn, and writes the summary. */
+static void summary(const char *seed, const char *count)
+{
+    uint32_t drawn = (uint32_t)strtoul(seed, NULL, 10), all = (uint32_t)strtoul(count, NULL, 10), draws[3], total = 0;
+    while (packets < all) {
+        for (int k = 0; k < 3; k++)
+            draws[k] = drawn = 1664525 * drawn + 1013904223;
+        take(draws[0] >> 30, (uint32_t[]){ draws[1] >> 26, draws[2] >> 16, 0 });
+    }
+    for (int k = 0; k < depth; k++)
+        clock_once(NULL);
+    for (int k = 0; k < array_count; k++)
+        for (uint32_t j = 0; j < lengths[k]; j++)
+            total += arrays[k][j];
+    dprintf(1, "selfrun,%s,%s,%s\n", target, seed, count);
+    dprintf(1, "packets,%llu\n", (unsigned long long)packets);
+    dprintf(1, "cycles,%llu\n", (unsigned long long)cycle);
+    dprintf(1, "fold,%d\n", (int32_t)fold);
+    dprintf(1, "total,%d\n", (int32_t)total);
+}
+
+int main(int argc, char **argv)
+{
+    static const char *const modes[] = { "run", "serial", "watch", "selfrun" };
+    if (argc < 4)
+        return 2;
+    mode = found(argv[1], modes, 4);
+    if (argc != (mode == SELFRUN ? 5 : 4))
+        return 2;
+    read_configuration(text_of(argv[2]));
+    ring = room((size_t)depth * (size_t)width * sizeof *ring);
+    filled = room((size_t)depth);
+    if (mode == SELFRUN)
+        summary(argv[3], argv[4]);
+    else
+        report(argv[3]);
     return 0;
 }

@@ -74,7 +74,7 @@ static inline const char *whole(int argc, char **argv, const char *heading)
 }
 
 /* Reads the numbers of a record, the first of which is the gap. */
-static const char *numbers(const char *text, uint32_t *row, int count)
+static inline const char *numbers(const char *text, uint32_t *row, int count)
 {
     for (int k = 0; k < count; k++) {
         int is_negative = *text == '-';

@@ -7,38 +7,21 @@
 set -u
 . "$(dirname "${BASH_SOURCE[0]}")/common.sh" 3 running_sum flowlet nested
 
-# The program of nested.c: thirty conditionals inside one another, each on one bit.
-nested_program() {
-    echo 'struct Packet { int x; int y; };'
-    echo 'int count;'
-    printf 'void nested(struct Packet pkt) {\n  pkt.y = 0;\n'
-    for ((k = 0; k < 30; k++)); do
-        printf '  if ((pkt.x >> %d & 1) == 0) { pkt.y = pkt.y * 3 + %d; count = count + 1;\n' "$k" "$k"
-    done
-    for ((k = 0; k < 30; k++)); do printf '}'; done
-    printf '\n}\n'
-}
-
-best() { # best OUTPUT WORD..: the least processor time, and the greatest peak, of the runs
-    local output="$1" run
-    shift
-    for ((run = 0; run < runs; run++)); do ./measure "$output" "$@"; done |
-        awk 'NF == 2 { if (time == "" || $1 < time) time = $1; if ($2 > peak) peak = $2 } END { print time + 0, peak + 0 }'
-}
-
-printf '%-12s %-8s %9s %10s %8s %6s %12s %9s %8s\n' program trace packets 'domino s' 'C s' ratio 'packets/s' 'peak MiB' 'C MiB'
+printf '%-12s %-8s %9s %10s %8s %6s %6s %12s %9s %8s\n' program trace packets 'domino s' 'C s' ratio median 'packets/s' \
+    'peak MiB' 'C MiB'
 nested_program >nested.dom
 for row in "running_sum $top/examples/acc.dom gap,x" "flowlet $top/examples/flowlet.dom gap,sport,dport,arrival" "nested nested.dom gap,x"; do
     set -- $row
     for mib in 4 16; do
-        [ -s "$1-$mib.csv" ] || RARE=1 trace "$3" $((mib * 1024 * 1024)) >"$1-$mib.csv"
-        packets=$(($(wc -l <"$1-$mib.csv") - 1))
-        ours="$(best ours.out "$program" serial "$2" "$1-$mib.csv")"
-        theirs="$(best theirs.out "./$1" "$1-$mib.csv")"
-        cmp -s ours.out theirs.out || echo "bench: the two reports on $1-$mib.csv differ"
-        echo "$1 $mib $packets $ours $theirs" | awk '{
+        csv="$(RARE=1 traced "$1" "$mib" "$3")"
+        packets=$(($(wc -l <"$csv") - 1))
+        ours=("$program" serial "$2" "$csv") hand=("./$1" "$csv")
+        rounds file
+        agree || echo "bench: the two reports on $csv differ"
+        echo "$1 $mib $packets $(summed)" | awk '{
             if ($4 == 0 || $6 == 0) { print "bench: a run failed on " $1; exit }
-            printf "%-12s %-8s %9d %10.3f %8.3f %6.2f %12.0f %9.1f %8.1f\n", $1, $2 " MiB", $3, $4 / 1e6, $6 / 1e6, $4 / $6, $3 * 1e6 / $4, $5 / 1024, $7 / 1024
+            printf "%-12s %-8s %9d %10.3f %8.3f %6.2f %6.2f %12.0f %9.1f %8.1f\n", $1, $2 " MiB", $3, $4 / 1e6, $6 / 1e6, $4 / $6, $8,
+                $3 * 1e6 / $4, $9 / 1024, $11 / 1024
         }'
     done
 done
@@ -53,8 +36,9 @@ printf 'gap\n' >none.csv
 printf '\n%-12s %9s %10s %9s\n' program bytes 'domino s' 'peak MiB'
 for name in tokens bytes chain; do
     size=$(wc -c <"$name.dom")
-    echo "$name $size $(best ours.out "$program" serial "$name.dom" none.csv)" |
-        awk '{ printf "%-12s %9d %10.4f %9.1f\n", $1, $2, $3 / 1e6, $4 / 1024 }'
+    ours=("$program" serial "$name.dom" none.csv) hand=()
+    rounds file
+    echo "$name $size $(summed)" | awk '{ printf "%-12s %9d %10.4f %9.1f\n", $1, $2, $3 / 1e6, $8 / 1024 }'
 done
-rm -f ours.out theirs.out
+rm -f ours.out theirs.out hand.out times.txt
 exit 0
