@@ -80,10 +80,10 @@ choices_program() { # so many assignments behind 62 conditionals, each in the `e
     printf '}\n}\n'
 }
 
-# 64 fields, 32 arrays and so many containers; each stage has an atom with state and its share of operators, each of which
-# reads a field and writes a container of its own
+# legal CONTAINERS STAGES: 64 fields, 32 arrays and so many containers; each stage has an atom with state and its share of
+# operators, each of which writes a container of its own, and reads one that was written so many stages before; 0 for a field
 legal() {
-    awk -v containers="$1" 'BEGIN {
+    awk -v containers="$1" -v stages="$2" 'BEGIN {
         print "banzai,1"; print "target,pairs-large"
         for (k = 0; k < 64; k++) print "field,f" k
         for (k = 0; k < 32; k++) print "array,a" k ",1024,0"
@@ -92,7 +92,12 @@ legal() {
         for (s = 1; s <= 32; s++) {
             print "stage," s
             last = 64 + int((containers - 64) * s / 32)
-            while (next_container < last) { print "bin,c" next_container ",add,c" next_container % 64 ",#-2000000000"; next_container++ }
+            back = int((containers - 64) / 32) * stages
+            while (next_container < last) {
+                read = back && next_container - back >= 64 ? next_container - back : next_container % 64
+                print "bin,c" next_container ",add,c" read ",#-2000000000"
+                next_container++
+            }
             print "atom,1"
             print "slot," s - 1 ",c" s ",-,-,if,lt,c1,s0,if,eq,c2,#7,put,c3,add,c4,sub,c5"
         }
