@@ -46,7 +46,7 @@ pub fn put_probe_report<
     requires entering { length entering.old ≡ length tapped.old.machine.config.fields }
     requires leaving { length leaving.old ≡ length tapped.old.machine.config.fields }
     requires cycles { cycles_of trace.now + length tapped.old.machine.config.stages ≤ most_cycles }
-    ensures bytes { Puts (S.held sink.old) (S.held sink.new) (probe_report (H.meaning hash.now) (attached_forms (λ b. form b) tapped.old.taps.items) tapped.old.machine.config (entries trace.now)) result }
+    ensures bytes { Puts (S.held sink.old) (S.held sink.new) (probe_report (H.meaning hash.now) (attached_forms (λ b. form (b.vtable, b.value)) tapped.old.taps.items) tapped.old.machine.config (entries trace.now)) result }
     ensures cause { HasCause (S.faults sink.old) (S.faults sink.new) result }
     ensures config { tapped.new.machine.config ≡ tapped.old.machine.config }
 {
@@ -71,7 +71,7 @@ fn put_end<T: AtomTemplate, const DEPTH: usize, const SL: usize, const SF: usize
 ) -> Result<(), SinkFault>
     requires arrays { lines.old.arrays ≡ array_names tapped.now.machine.config }
     requires taps { taps ≡ length tapped.now.taps.items }
-    ensures bytes { Puts (S.held sink.old) (S.held sink.new) (joined (probe_end tapped.now.machine.config tapped.now.machine.row.state (map (λ a. a.tap.number) (attached_forms (λ b. form b) tapped.now.taps.items)) packets cycles)) result }
+    ensures bytes { Puts (S.held sink.old) (S.held sink.new) (joined (probe_end tapped.now.machine.config tapped.now.machine.row.state (map (λ a. a.tap.number) (attached_forms (λ b. form (b.vtable, b.value)) tapped.now.taps.items)) packets cycles)) result }
     ensures cause { HasCause (S.faults sink.old) (S.faults sink.new) result }
 {
     let machine = tapped.machine();
@@ -95,7 +95,7 @@ fn put_taps<T: AtomTemplate, const DEPTH: usize, const SL: usize, const SF: usiz
     sink: &mut S,
 ) -> Result<(), SinkFault>
     requires { taps ≡ length tapped.now.taps.items }
-    ensures bytes { Puts (S.held sink.old) (S.held sink.new) (joined (tap_lines 1 (map (λ a. a.tap.number) (attached_forms (λ b. form b) tapped.now.taps.items)))) result }
+    ensures bytes { Puts (S.held sink.old) (S.held sink.new) (joined (tap_lines 1 (map (λ a. a.tap.number) (attached_forms (λ b. form (b.vtable, b.value)) tapped.now.taps.items)))) result }
     ensures cause { HasCause (S.faults sink.old) (S.faults sink.new) result }
     ensures same { lines.new ≡ lines.old }
 {

@@ -39,7 +39,7 @@ pub(crate) fn clock_tapped<
     requires entering { length entering.old ≡ length tapped.old.machine.config.fields }
     requires leaving { length leaving.old ≡ length tapped.old.machine.config.fields }
     requires cycles { cycles_of trace.now + length tapped.old.machine.config.stages < 2 ^ 64 }
-    ensures clocked { OnOk result (TappedOver (H.meaning hash.now) (tapped_form (λ b. form b) tapped.old.machine tapped.old.cycle tapped.old.taps.items) (tapped_form (λ b. form b) tapped.new.machine tapped.new.cycle tapped.new.taps.items) (S.held sink.old) (S.held sink.new) 0 (entries trace.now ++ drain tapped.old.machine.config)) }
+    ensures clocked { OnOk result (TappedOver (H.meaning hash.now) (tapped_form (λ b. form (b.vtable, b.value)) tapped.old.machine tapped.old.cycle tapped.old.taps.items) (tapped_form (λ b. form (b.vtable, b.value)) tapped.new.machine tapped.new.cycle tapped.new.taps.items) (S.held sink.old) (S.held sink.new) 0 (entries trace.now ++ drain tapped.old.machine.config)) }
     ensures part { OnErr result (IsPart (S.held sink.old) (S.held sink.new) (packet_lines 0 (left_over (H.meaning hash.now) tapped.old.machine (entries trace.now ++ drain tapped.old.machine.config)))) }
     ensures cause { HasCause (S.faults sink.old) (S.faults sink.new) result }
     ensures cycles { IfOk result (λ cycles. cycles ≡ length (entries trace.now ++ drain tapped.old.machine.config)) }
@@ -85,7 +85,7 @@ fn clock_packet<
     requires leaving { length leaving.old ≡ length tapped.old.machine.config.fields }
     requires words { length tapped.old.machine.config.fields ≤ lines.old.words }
     requires few { number + gap < 2 ^ 64 }
-    ensures clocked { OnOk result (TappedOver (H.meaning hash.now) (tapped_form (λ b. form b) tapped.old.machine tapped.old.cycle tapped.old.taps.items) (tapped_form (λ b. form b) tapped.new.machine tapped.new.cycle tapped.new.taps.items) (S.held sink.old) (S.held sink.new) number (replicate gap None ++ Some words.now ∷ [])) }
+    ensures clocked { OnOk result (TappedOver (H.meaning hash.now) (tapped_form (λ b. form (b.vtable, b.value)) tapped.old.machine tapped.old.cycle tapped.old.taps.items) (tapped_form (λ b. form (b.vtable, b.value)) tapped.new.machine tapped.new.cycle tapped.new.taps.items) (S.held sink.old) (S.held sink.new) number (replicate gap None ++ Some words.now ∷ [])) }
     ensures part { OnErr result (IsPart (S.held sink.old) (S.held sink.new) (packet_lines number (left_over (H.meaning hash.now) tapped.old.machine (replicate gap None ++ Some words.now ∷ [])))) }
     ensures cause { HasCause (S.faults sink.old) (S.faults sink.new) result }
     ensures config { tapped.new.machine.config ≡ tapped.old.machine.config }
@@ -119,7 +119,7 @@ fn clock_idle<
     requires leaving { length leaving.old ≡ length tapped.old.machine.config.fields }
     requires words { length tapped.old.machine.config.fields ≤ lines.old.words }
     requires few { number + count < 2 ^ 64 }
-    ensures clocked { OnOk result (TappedOver (H.meaning hash.now) (tapped_form (λ b. form b) tapped.old.machine tapped.old.cycle tapped.old.taps.items) (tapped_form (λ b. form b) tapped.new.machine tapped.new.cycle tapped.new.taps.items) (S.held sink.old) (S.held sink.new) number (replicate count None)) }
+    ensures clocked { OnOk result (TappedOver (H.meaning hash.now) (tapped_form (λ b. form (b.vtable, b.value)) tapped.old.machine tapped.old.cycle tapped.old.taps.items) (tapped_form (λ b. form (b.vtable, b.value)) tapped.new.machine tapped.new.cycle tapped.new.taps.items) (S.held sink.old) (S.held sink.new) number (replicate count None)) }
     ensures part { OnErr result (IsPart (S.held sink.old) (S.held sink.new) (packet_lines number (left_over (H.meaning hash.now) tapped.old.machine (replicate count None)))) }
     ensures cause { HasCause (S.faults sink.old) (S.faults sink.new) result }
     ensures config { tapped.new.machine.config ≡ tapped.old.machine.config }
@@ -155,7 +155,7 @@ fn clock_once<
     requires entering { HasWords (length tapped.old.machine.config.fields) (option_map (λ fields. fields.now) entering) }
     requires leaving { length leaving.old ≡ length tapped.old.machine.config.fields }
     requires words { length tapped.old.machine.config.fields ≤ lines.old.words }
-    ensures clocked { OnOk result (TappedOver (H.meaning hash.now) (tapped_form (λ b. form b) tapped.old.machine tapped.old.cycle tapped.old.taps.items) (tapped_form (λ b. form b) tapped.new.machine tapped.new.cycle tapped.new.taps.items) (S.held sink.old) (S.held sink.new) number (option_map (λ fields. fields.now) entering.entry ∷ [])) }
+    ensures clocked { OnOk result (TappedOver (H.meaning hash.now) (tapped_form (λ b. form (b.vtable, b.value)) tapped.old.machine tapped.old.cycle tapped.old.taps.items) (tapped_form (λ b. form (b.vtable, b.value)) tapped.new.machine tapped.new.cycle tapped.new.taps.items) (S.held sink.old) (S.held sink.new) number (option_map (λ fields. fields.now) entering.entry ∷ [])) }
     ensures part { OnErr result (IsPart (S.held sink.old) (S.held sink.new) (packet_lines number (left_over (H.meaning hash.now) tapped.old.machine (option_map (λ fields. fields.now) entering.entry ∷ [])))) }
     ensures cause { HasCause (S.faults sink.old) (S.faults sink.new) result }
     ensures config { tapped.new.machine.config ≡ tapped.old.machine.config }

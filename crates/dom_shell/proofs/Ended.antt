@@ -17,7 +17,7 @@ use Rattle.dom_finding.specs.declared.refusals.Refusal.TheVariants as refusal
 use Rattle.dom_finding.proofs.OneFinding.{found_in_weaker, one_finding, told_may, unread_in_weaker}
 use Rattle.dom_shell.specs.Call as said
 use Rattle.dom_shell.specs.Call.{Answers, IsAnswer, IsPut, IsPutInPart, IsResult, IsUnread, bytes_of, report_of, status_of}
-use Rattle.dom_shell.specs.Ends.{AreStopped, Call, IsEnd, IsEndAfter, Sent, Tried, call_of, cut, ends, fails, no_command, some_command, wants, whole}
+use Rattle.dom_shell.specs.Ends.{AreStopped, Call, IsEnd, IsEndAfter, IsTriedWithMemory, Sent, Tried, call_of, cut, ends, fails, no_command, some_command, wants, whole}
 
 -- A refusal's status is 1 or 3.
 
@@ -215,13 +215,24 @@ same_may files mid same name text holds = subst (λ (o : Option (List ℕ)). IfS
 
 -- How a command ends, from what it did.
 
+-- bytes that were put, or that the sink did not take
+pub put_tried : (result : Result (Unit {0}) SinkFault) (s : Sent) (bytes : List ℕ) → Puts s.held_before s.held_after bytes result → HasCause s.faults_before s.faults_after result
+    → MatchResult result (λ _. s.answer ≡ 0) (λ _. s.answer ≡ 5) → Tried 0 bytes s
+put_tried (Ok x) s bytes put cause is = whole is put cause.kept
+put_tried (Err e) s bytes put cause is = cut is put cause.failed cause.later
+
 module _ (command : Command) (texts : List (List ℕ)) (call : Call) where
   -- a report that was put, or that the sink did not take
   pub report_end : (job : Job) (result : Result (Unit {0}) SinkFault) → IsFoundAfter (MayHold call.files) command texts (Ok job) → AreKept call.unread_before call.unread_after
       → Puts call.sent.held_before call.sent.held_after (report_of call.hash call.taps job) result → HasCause call.sent.faults_before call.sent.faults_after result
       → MatchResult result (λ _. call.sent.answer ≡ 0) (λ _. call.sent.answer ≡ 5) → IsEndAfter command texts call
-  report_end job (Ok x) found kept bytes cause is = ends (Ok job) found kept (whole is bytes cause.kept)
-  report_end job (Err e) found kept bytes cause is = ends (Ok job) found kept (cut is bytes cause.failed cause.later)
+  report_end job result found kept bytes cause is = ends (Ok job) found kept (put_tried result call.sent (report_of call.hash call.taps job) bytes cause is)
+
+  -- the same, where what puts it may want memory
+  pub tried_end : (job : Job) → IsFoundAfter (MayHold call.files) command texts (Ok job) → AreKept call.unread_before call.unread_after
+      → IsTriedWithMemory 0 (report_of call.hash call.taps job) call.sent → IsEndAfter command texts call
+  tried_end job found kept (inl t) = ends (Ok job) found kept t
+  tried_end job found kept (inr want) = wants kept want
 
   -- a stop
   pub stop_end : (stop : Stop) → StopAfter command texts call.files call.unread_before call.unread_after stop → AreStopped stop call.sent → IsEndAfter command texts call

@@ -1,5 +1,6 @@
 -- How the commands over a configuration end.
-use Rattle.std.proofs.Common.{◌≡◌, ℕ, List, [], ◌∷◌, length, refl, sym, subst, Option, Ok, Err}
+use Rattle.std.proofs.Common.{◌≡◌, ℕ, Bool, true, false, List, [], ◌∷◌, length, refl, sym, ap, ◌∙◌, subst, Option, Ok, Err}
+use Rattle.std.specs.Bool.{if◌then◌else◌}
 use Rattle.trace_text.specs.Trace as told
 use Rattle.trace_text.specs.Trace.{IsTraceOf}
 use Rattle.dom_words.specs.State.{Hash}
@@ -11,14 +12,16 @@ use Rattle.config_text.specs.Fronts.{TextOf}
 use Rattle.probe_taps.specs.Taps.{TapForm}
 use Rattle.dom_finding.specs.Command.{ConfigNames}
 use Rattle.dom_finding.specs.Configs.{ConfigForm, ConfigRefusal, IsConfig, config_form}
-use Rattle.dom_finding.specs.Finding.{IsFoundAfter, IsNext, MayHold, Packets, ask, config_file, found, trace_file}
+use Rattle.dom_finding.specs.Finding.{IsFoundAfter, IsNext, MayHold, Next, Packets, ask, config_file, ends, found, trace_file}
 use Rattle.dom_finding.specs.Refusals.{refused_config, refused_trace}
 use Rattle.dom_finding.specs.Stops.{AreKept, FileStop, IsText, StopAfter, TextStop, TraceStop}
 use Rattle.dom_finding.specs.declared.reading.Stop.{Stop}
+use Rattle.dom_finding.specs.declared.reading.Stop.TheVariants.{Refused}
+use Rattle.dom_finding.specs.declared.refusals.Refusal.TheVariants as refusal
 use Rattle.dom_finding.proofs.Stopped.{file_stops, read_on, text_stops}
 use Rattle.dom_shell.specs.Ends.{AreStopped, IsEndAfter, Sent, call_of}
 use Rattle.dom_shell.specs.RunSetUp.{IsTraced}
-use Rattle.dom_shell.specs.Tasks.{command_over, job_over}
+use Rattle.dom_shell.specs.Tasks.{command_over, is_within, job_over}
 use Rattle.dom_shell.specs.declared.commands.task.ConfigTask.{ConfigTask}
 use Rattle.dom_shell.specs.declared.commands.task.ConfigTask.TheVariants as what
 use Rattle.dom_shell.proofs.Clocked.{trace_found, trace_stops}
@@ -29,24 +32,40 @@ use Rattle.dom_shell.proofs.Ended.{end_read_on, stop_end}
 first : (w : ConfigTask) (names : ConfigNames) → IsNext (command_over w names) [] (ask (config_file names.config))
 first what.Exec names = refl
 first what.Watch names = refl
+first (what.Probe stage) names = refl
 
 refuses : (w : ConfigTask) (names : ConfigNames) (config : List ℕ) (r : ConfigRefusal) → IsConfig config (Err r) → IsNext (command_over w names) (config ∷ []) (found (Err (refused_config r)))
 refuses what.Exec names config r is = (Err r, is, refl)
 refuses what.Watch names config r is = (Err r, is, refl)
+refuses (what.Probe stage) names config r is = (Err r, is, refl)
 
-wants : (w : ConfigTask) (names : ConfigNames) (config : List ℕ) (c : ConfigForm) → IsConfig config (Ok c) → IsNext (command_over w names) (config ∷ []) (ask (trace_file names.trace))
-wants what.Exec names config c is = (Ok c, is, refl)
-wants what.Watch names config c is = (Ok c, is, refl)
+-- the trace, or the refusal of a stage
+abbrev trace_if : Bool → ConfigNames → PartsForm → Next
+trace_if b names parts = if b then ask (trace_file names.trace) else found (Err (refusal.Stage (length parts.stages)))
+
+wants : (w : ConfigTask) (names : ConfigNames) (config : List ℕ) (c : ConfigForm) → IsConfig config (Ok c) → is_within w (length c.parts.stages) ≡ true
+    → IsNext (command_over w names) (config ∷ []) (ask (trace_file names.trace))
+wants what.Exec names config c is within = (Ok c, is, refl)
+wants what.Watch names config c is within = (Ok c, is, refl)
+wants (what.Probe stage) names config c is within = (Ok c, is, ap (λ b. trace_if b names c.parts) (sym within))
+
+refuses_stage : (w : ConfigTask) (names : ConfigNames) (config : List ℕ) (c : ConfigForm) → IsConfig config (Ok c) → is_within w (length c.parts.stages) ≡ false
+    → IsNext (command_over w names) (config ∷ []) (found (Err (refusal.Stage (length c.parts.stages))))
+refuses_stage what.Exec names config c is beyond = absurd (cc)
+refuses_stage what.Watch names config c is beyond = absurd (cc)
+refuses_stage (what.Probe stage) names config c is beyond = (Ok c, is, ap (λ b. trace_if b names c.parts) (sym beyond))
 
 refuses_trace : (w : ConfigTask) (names : ConfigNames) (config : List ℕ) (c : ConfigForm) → IsConfig config (Ok c) → (text : List ℕ) (r : told.Refusal)
     → IsTraceOf text c.parts.fields (length c.parts.stages) (Err r) → IsNext (command_over w names) (text ∷ config ∷ []) (found (Err (refused_trace r)))
 refuses_trace what.Exec names config c is text r has = (c, is, (Err r, has, refl))
 refuses_trace what.Watch names config c is text r has = (c, is, (Err r, has, refl))
+refuses_trace (what.Probe stage) names config c is text r has = (c, is, (Err r, has, refl))
 
 gives : (w : ConfigTask) (names : ConfigNames) (config : List ℕ) (c : ConfigForm) → IsConfig config (Ok c) → (packets : Packets) (text : List ℕ)
     → IsTraceOf text c.parts.fields (length c.parts.stages) (Ok packets) → IsNext (command_over w names) (text ∷ config ∷ []) (found (Ok (job_over w c.parts packets)))
 gives what.Exec names config c is packets text says = (c, is, (Ok packets, says, refl))
 gives what.Watch names config c is packets text says = (c, is, (Ok packets, says, refl))
+gives (what.Probe stage) names config c is packets text says = (c, is, (Ok packets, says, refl))
 
 module _ (w : ConfigTask) (names : ConfigNames) (files : List ℕ → Option (List ℕ)) (config : List ℕ) where
   -- the configuration is none
@@ -54,17 +73,24 @@ module _ (w : ConfigTask) (names : ConfigNames) (files : List ℕ → Option (Li
   config_stops before now stop kept is =
       text_stops (command_over w names) (config ∷ []) files before now (IsConfig config) refused_config stop kept (λ r has. refuses w names config r has) is
 
-  module _ (c : ConfigForm) (is : IsConfig config (Ok c)) where
+  -- it has not the stage that is named
+  pub stage_stops : (before now : List ℕ → ℕ) (c : ConfigForm) (depth : ℕ) → length c.parts.stages ≡ depth → IsConfig config (Ok c) → is_within w depth ≡ false → AreKept before now
+      → StopAfter (command_over w names) (config ∷ []) files before now (Refused (refusal.Stage depth))
+  stage_stops before now c depth depth_is is beyond kept =
+      let here : is_within w (length c.parts.stages) ≡ false = ap (is_within w) depth_is ∙ beyond in
+      (subst (λ (n : ℕ). IsFoundAfter (MayHold files) (command_over w names) (config ∷ []) (Err (refusal.Stage n))) depth_is (ends (refuses_stage w names config c is here)), kept)
+
+  module _ (c : ConfigForm) (is : IsConfig config (Ok c)) (within : is_within w (length c.parts.stages) ≡ true) where
     -- its trace stops it
     pub over_stops : (before now : List ℕ → ℕ) (stop : Stop) → TraceStop files before now (trace_file names.trace) c.parts.fields (length c.parts.stages) stop
         → StopAfter (command_over w names) (config ∷ []) files before now stop
     over_stops before now stop stops =
-        trace_stops (command_over w names) (config ∷ []) files names.trace (wants w names config c is) c.parts.fields (length c.parts.stages) before now (refuses_trace w names config c is) stop stops
+        trace_stops (command_over w names) (config ∷ []) files names.trace (wants w names config c is within) c.parts.fields (length c.parts.stages) before now (refuses_trace w names config c is) stop stops
 
     -- a configuration and packets are found
     pub over_found : (packets : Packets) → IsTraced files names.trace c.parts packets → IsFoundAfter (MayHold files) (command_over w names) (config ∷ []) (Ok (job_over w c.parts packets))
     over_found packets traced =
-        trace_found (command_over w names) (config ∷ []) files names.trace (wants w names config c is) c.parts (job_over w c.parts packets) packets (gives w names config c is packets) traced
+        trace_found (command_over w names) (config ∷ []) files names.trace (wants w names config c is within) c.parts (job_over w c.parts packets) packets (gives w names config c is packets) traced
 
 -- The parts that were read are those of the machine.
 

@@ -20,14 +20,14 @@ returns-clause-found g c name text spelled =
     let is = config_of c.args.target (parts_form c.args.parts) c.in-Ok.config c.in-Ok.ensures.parts (shape_with g.T.AtomTemplate.fits g.T.AtomTemplate.CONST_BITS g.row.DEPTH g.row.SL g.row.SF (not (nat_eq g.row.MUL 0))) text c.requires.shape spelled c.in-Ok.ensures.legal in
     lemma.ok_of_both _ _ _ c.traced.result
     (λ run same traced. found_over c.args.what (configs_named name c.args.trace.now) text (g.F.Shelf.content c.args.shelf.now) c.in-Ok.config run.machine.config run.trace same
-    (over_found c.args.what (configs_named name c.args.trace.now) (g.F.Shelf.content c.args.shelf.now) text (config_form c.args.target c.in-Ok.config) is run.trace traced))
+    (over_found c.args.what (configs_named name c.args.trace.now) (g.F.Shelf.content c.args.shelf.now) text (config_form c.args.target c.in-Ok.config) is within run.trace traced))
     c.traced.ensures.config c.traced.ensures.trace
 
 pub returns-clause-stop : goal.returns-clause-stop
 returns-clause-stop g c name text spelled =
     let is = config_of c.args.target (parts_form c.args.parts) c.in-Ok.config c.in-Ok.ensures.parts (shape_with g.T.AtomTemplate.fits g.T.AtomTemplate.CONST_BITS g.row.DEPTH g.row.SL g.row.SF (not (nat_eq g.row.MUL 0))) text c.requires.shape spelled c.in-Ok.ensures.legal in
     lemma.err_of _ _ c.traced.result
-    (λ s. over_stops c.args.what (configs_named name c.args.trace.now) (g.F.Shelf.content c.args.shelf.now) text (config_form c.args.target c.in-Ok.config) is
+    (λ s. over_stops c.args.what (configs_named name c.args.trace.now) (g.F.Shelf.content c.args.shelf.now) text (config_form c.args.target c.in-Ok.config) is within
     (g.F.Shelf.faults c.args.shelf.now) (g.F.Shelf.faults c.traced.new.shelf) s)
     c.traced.ensures.stop
 

@@ -3,14 +3,14 @@ use Rattle.dom_shell.proofs.Drawn.{refused, summed}
 use Rattle.dom_shell.proofs.commands.selfrun.selfrun_on.Goals as goal
 
 pub returns-in-Ok : goal.returns-in-Ok
-returns-in-Ok g c files unread =
+returns-in-Ok g c taps files unread =
     let is = c.in-Ok.ensures.written in
-    summed c.args.target c.args.seed c.args.count c.args.text.now c.requires.text (g.H.HashUnits.meaning c.args.hash.now) files unread
+    summed c.args.target c.args.seed c.args.count c.args.text.now c.requires.text (g.H.HashUnits.meaning c.args.hash.now) taps files unread
     (sent_as c.status_of.result (g.S.Sink.held c.args.sink.now) (g.S.Sink.held c.put_text.new.sink) (g.S.Sink.faults c.args.sink.now) (g.S.Sink.faults c.put_text.new.sink))
     is.0 c.in-Ok.written.items c.put_text.result is.1 is.2 (rw c.as_slice.ensures.value at c.put_text.ensures.bytes) c.put_text.ensures.cause c.status_of.ensures
 
 pub returns-in-Err : goal.returns-in-Err
-returns-in-Err g c files unread =
-    refused c.args.target c.args.seed c.args.count c.args.text.now c.requires.text (g.H.HashUnits.meaning c.args.hash.now) files unread
+returns-in-Err g c taps files unread =
+    refused c.args.target c.args.seed c.args.count c.args.text.now c.requires.text (g.H.HashUnits.meaning c.args.hash.now) taps files unread
     (sent_as c.stopped.result (g.S.Sink.held c.args.sink.now) (g.S.Sink.held c.stopped.new.sink) (g.S.Sink.faults c.args.sink.now) (g.S.Sink.faults c.stopped.new.sink))
     c.in-Err.stop c.in-Err.ensures.stop c.stopped.ensures

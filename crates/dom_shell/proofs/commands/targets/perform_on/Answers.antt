@@ -1,3 +1,4 @@
+use Rattle.probe_taps.specs.Taps.{tap_forms}
 use Rattle.dom_shell.specs.declared.commands.task.Task.TheVariants as task
 use Rattle.dom_shell.proofs.Tasked.{for_task, read_task}
 use Rattle.dom_shell.proofs.commands.targets.perform_on.Goals as goal
@@ -11,11 +12,11 @@ run_on-requires-clause-text g c = read_task c.args.target c.args.text.now c.args
 pub returns-in-Compile-clause-end : goal.returns-in-Compile-clause-end
 returns-in-Compile-clause-end g c name =
     for_task c.args.target name c.args.text.now c.args.task task.Compile _ c.in-Compile.is
-    (c.compile_on.ensures name (g.H.HashUnits.meaning c.args.hash.now) (g.F.Shelf.content c.args.shelf.now) (g.F.Shelf.faults c.args.shelf.now))
+    (c.compile_on.ensures name (g.H.HashUnits.meaning c.args.hash.now) (tap_forms (λ b. (goal.Tap-dyn g (b.vtable, b.value)).form b.value) c.args.taps.items) (g.F.Shelf.content c.args.shelf.now) (g.F.Shelf.faults c.args.shelf.now))
 
 pub returns-in-Run-clause-end : goal.returns-in-Run-clause-end
 returns-in-Run-clause-end g c name =
-    for_task c.args.target name c.args.text.now c.args.task (task.Run c.in-Run.trace) _ c.in-Run.is (c.run_on.ensures.end name)
+    for_task c.args.target name c.args.text.now c.args.task (task.Run c.in-Run.trace) _ c.in-Run.is (c.run_on.ensures.end name (tap_forms (λ b. (goal.Tap-dyn g (b.vtable, b.value)).form b.value) c.args.taps.items))
 
 pub selfrun_on-requires-clause-text : goal.selfrun_on-requires-clause-text
 selfrun_on-requires-clause-text g c = (read_task c.args.target c.args.text.now c.args.task (task.SelfRun c.in-SelfRun.seed c.in-SelfRun.count) c.in-SelfRun.is c.requires.text).0
@@ -26,7 +27,7 @@ selfrun_on-requires-clause-few g c = (read_task c.args.target c.args.text.now c.
 pub returns-in-SelfRun-clause-end : goal.returns-in-SelfRun-clause-end
 returns-in-SelfRun-clause-end g c name =
     for_task c.args.target name c.args.text.now c.args.task (task.SelfRun c.in-SelfRun.seed c.in-SelfRun.count) _ c.in-SelfRun.is
-    (c.selfrun_on.ensures (g.F.Shelf.content c.args.shelf.now) (g.F.Shelf.faults c.args.shelf.now))
+    (c.selfrun_on.ensures (tap_forms (λ b. (goal.Tap-dyn g (b.vtable, b.value)).form b.value) c.args.taps.items) (g.F.Shelf.content c.args.shelf.now) (g.F.Shelf.faults c.args.shelf.now))
 
 pub returns-in-Upgrade-clause-end : goal.returns-in-Upgrade-clause-end
 returns-in-Upgrade-clause-end g c name =
