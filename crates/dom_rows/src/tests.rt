@@ -1,6 +1,8 @@
 mod clocked;
 mod configurations;
 mod ends;
+mod failing;
+mod hostile;
 mod lines;
 mod shared;
 mod traces;
