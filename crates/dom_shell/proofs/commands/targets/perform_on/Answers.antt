@@ -32,7 +32,7 @@ returns-in-SelfRun-clause-end g c name =
 pub returns-in-Upgrade-clause-end : goal.returns-in-Upgrade-clause-end
 returns-in-Upgrade-clause-end g c name =
     for_task c.args.target name c.args.text.now c.args.task (task.Upgrade c.in-Upgrade.parts) _ c.in-Upgrade.is
-    (c.upgrade_on.ensures name c.args.text.now (g.H.HashUnits.meaning c.args.hash.now) (g.F.Shelf.content c.args.shelf.now) (g.F.Shelf.faults c.args.shelf.now)
+    (c.upgrade_on.ensures name c.args.text.now (g.H.HashUnits.meaning c.args.hash.now) (tap_forms (λ b. (goal.Tap-dyn g (b.vtable, b.value)).form b.value) c.args.taps.items) (g.F.Shelf.content c.args.shelf.now) (g.F.Shelf.faults c.args.shelf.now)
     (read_task c.args.target c.args.text.now c.args.task (task.Upgrade c.in-Upgrade.parts) c.in-Upgrade.is c.requires.text))
 
 pub returns-in-Config-clause-end : goal.returns-in-Config-clause-end

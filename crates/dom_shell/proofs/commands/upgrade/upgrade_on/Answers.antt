@@ -3,14 +3,14 @@ use Rattle.dom_shell.proofs.Upgraded.{refused, upgraded}
 use Rattle.dom_shell.proofs.commands.upgrade.upgrade_on.Goals as goal
 
 pub returns-in-Ok : goal.returns-in-Ok
-returns-in-Ok g c name text hash files unread spelled =
+returns-in-Ok g c name text hash taps files unread spelled =
     let is = c.in-Ok.ensures.written text spelled in
-    upgraded name hash files text unread
+    upgraded name hash taps files text unread
     (sent_as c.status_of.result (g.S.Sink.held c.args.sink.now) (g.S.Sink.held c.put_text.new.sink) (g.S.Sink.faults c.args.sink.now) (g.S.Sink.faults c.put_text.new.sink))
     is.0 c.in-Ok.written.items c.put_text.result is.1 is.2 (rw c.as_slice.ensures.value at c.put_text.ensures.bytes) c.put_text.ensures.cause c.status_of.ensures
 
 pub returns-in-Err : goal.returns-in-Err
-returns-in-Err g c name text hash files unread spelled =
-    refused name hash files text unread
+returns-in-Err g c name text hash taps files unread spelled =
+    refused name hash taps files text unread
     (sent_as c.stopped.result (g.S.Sink.held c.args.sink.now) (g.S.Sink.held c.stopped.new.sink) (g.S.Sink.faults c.args.sink.now) (g.S.Sink.faults c.stopped.new.sink))
     c.in-Err.stop (c.in-Err.ensures.stop text spelled) c.stopped.ensures
