@@ -51,10 +51,25 @@ fn shares_each(
         let once = answered(alloc, "upgrade p", config, TRACE)?;
         let text = str::from_utf8(once.held.as_slice()).map_err(|_| "no text")?;
         let again = answered(alloc, "upgrade p", text, TRACE)?;
-        assert_eq!(rt; (compiled.status, once.status, again.status), (0, 0, 0), "for {program}");
-        assert_eq!(rt; compiled.held.as_slice(), once.held.as_slice(), "for {program}");
-        assert_eq!(rt; again.held.as_slice(), once.held.as_slice(), "for {program}");
-        assert!(rt; config.contains(before) && text.contains(after), "for {program}");
+        assert_eq!(rt;
+            (compiled.status, once.status, again.status),
+            (0, 0, 0),
+            "for {program}"
+        );
+        assert_eq!(rt;
+            compiled.held.as_slice(),
+            once.held.as_slice(),
+            "for {program}"
+        );
+        assert_eq!(rt;
+            again.held.as_slice(),
+            once.held.as_slice(),
+            "for {program}"
+        );
+        assert!(rt;
+            config.contains(before) && text.contains(after),
+            "for {program}"
+        );
     }
     Ok(())
 }
@@ -94,7 +109,8 @@ fn refused_upgrades(rt: HostRuntime) -> Result<(), Fail> {
 // With the shared container a register has one word less.
 #[test]
 fn watched_in_version_two(rt: HostRuntime) -> Result<(), Fail> {
-    let report = "cycle,0\nreg,0,5,0\ncycle,1\nreg,0,7,0\nreg,1,5,5\ntouch,1,total,0\ncycle,2\nreg,1,7,12\nreg,2,5,5\ntouch,1,total,0\ncycle,3\nreg,2,7,12\nreg,3,5,5\ncycle,4\nout,5,5\nreg,3,7,12\ncycle,5\nout,7,12\ndone,2,6\n";
+    let report =
+        "cycle,0\nreg,0,5,0\ncycle,1\nreg,0,7,0\nreg,1,5,5\ntouch,1,total,0\ncycle,2\nreg,1,7,12\nreg,2,5,5\ntouch,1,total,0\ncycle,3\nreg,2,7,12\nreg,3,5,5\ncycle,4\nout,5,5\nreg,3,7,12\ncycle,5\nout,7,12\ndone,2,6\n";
     let given = answered(rt.alloc(), "watch p t", SHARED, "gap,x\n0,5\n0,7\n")?;
     assert_eq!(rt; given.status, 0);
     assert_eq!(rt; given.held.as_slice(), report.as_bytes());
