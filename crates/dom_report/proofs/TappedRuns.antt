@@ -1,8 +1,8 @@
 -- A machine under taps, clocked over entries behind entries.
-use Rattle.std.proofs.Common.{◌≡◌, ℕ, suc, ◌+◌, ◌<◌, ◌-◌, ◌^◌, List, [], ◌∷◌, ◌++◌, length, take, drop, get_or, refl, sym, ap, ◌∙◌, subst, append_assoc, append-nil, length-append, Option, Some, None, arith}
+use Rattle.std.proofs.Common.{◌≡◌, ℕ, suc, ◌+◌, ◌<◌, ◌-◌, ◌^◌, List, [], ◌∷◌, ◌++◌, length, take, drop, get_or, refl, sym, ap, ◌∙◌, subst, append_assoc, append-nil, length-append, Option, Some, None, Result, Ok, Err, OnErr, arith}
 use Rattle.std.proofs.Math.Seq.{take-length}
 use Rattle.std.proofs.lemmas.List.{length-replicate, replicate-append-replicate}
-use Rattle.dom_io.specs.Held.{IsPart, appended}
+use Rattle.dom_io.specs.Held.{IsPart, Puts, appended}
 use Rattle.dom_words.specs.State.{Hash}
 use Rattle.banzai_config.specs.Action.{Entry}
 use Rattle.banzai_config.specs.Parts.{PartsForm}
@@ -10,6 +10,7 @@ use Rattle.banzai_machine.specs.Pipe.{drain, leaves_with}
 use Rattle.banzai_machine.specs.State.{MachineForm}
 use Rattle.probe_taps.specs.Attached.{TappedForm}
 use Rattle.probe_taps.specs.Runs.{IsTapped}
+use Rattle.trace_text.specs.Lines.{packet_line}
 use Rattle.trace_text.specs.Trace.{cycles_of, entries}
 use Rattle.dom_report.specs.Clocking.{after_cycle, after_entries, left_over}
 use Rattle.dom_report.specs.Report.{packet_lines}
@@ -146,3 +147,10 @@ module _ (hash : Hash) (s t : TappedForm) (h0 h1 h2 : Option (List ℕ)) (ps : L
 
     pub drain_fits : cycles_of ps + length p.stages < 2 ^ 64 → number + depth < 2 ^ 64
     drain_fits few = omega (arith, few, number_is, ap length taken, length-entries ps, depth_is)
+
+-- a line that failed in the only cycle
+pub line_part : {E : Type 0} (out : Entry) (number : ℕ) (words : List ℕ) (h0 h1 : Option (List ℕ)) (result : Result (Unit {0}) E) → Some words ≡ out → Puts h0 h1 (packet_line number words) result
+    → OnErr result (IsPart h0 h1 (packet_lines number (out ∷ [])))
+line_part out number words h0 h1 (Ok x) is put = tt
+line_part out number words h0 h1 (Err e) is put =
+    subst (λ (o : Entry). IsPart h0 h1 (packet_lines number (o ∷ []))) is (part_before h0 h1 (packet_line number words) [] put)

@@ -1,9 +1,11 @@
-//! What holds of the cycles that are told.
+//! What holds of the cycles that are told, and of a run under taps.
 
-ghost use Rattle.std.specs.Prelude.{◌≡◌, ℕ, List, Some, length, slice_get};
+ghost use Rattle.std.specs.Prelude.{◌≡◌, ℕ, List, [], Some, length, slice_get};
 ghost use Rattle.banzai_config.specs.Action.{Entry};
 ghost use Rattle.banzai_config.specs.Parts.{PartsForm};
 ghost use Rattle.dom_report.specs.Clocking.{Cycle, cycles_from};
+ghost use Rattle.dom_report.specs.ProbeReport.{probe_report};
+ghost use Rattle.dom_report.specs.RunReport.{run_report};
 ghost use Rattle.dom_report.specs.WatchReport.{IsCycleOf, at_beginning};
 ghost use Rattle.dom_words.specs.State.{Hash};
 
@@ -12,4 +14,9 @@ ghost use Rattle.dom_words.specs.State.{Hash};
 pub fn watched_cycles_are_the_pipeline()
     ensures count { (hash : Hash) (p : PartsForm) (entries : List Entry) → length (cycles_from hash (at_beginning hash p) 0 entries) ≡ length entries }
     ensures each { (hash : Hash) (p : PartsForm) (entries : List Entry) (k : ℕ) (cycle : Cycle) → slice_get (cycles_from hash (at_beginning hash p) 0 entries) k ≡ Some cycle → IsCycleOf hash p entries k cycle }
+{}
+
+/// The report of a run under no taps is the report of the run.
+pub fn no_taps_change_nothing()
+    ensures { (hash : Hash) (p : PartsForm) (entries : List Entry) → probe_report hash [] p entries ≡ run_report hash p entries }
 {}

@@ -5,11 +5,13 @@ mod failing;
 mod hostile;
 mod lines;
 mod shared;
+mod taps;
 mod traces;
 
 use dom_io::{MemShelf, MemSink};
 use dom_shell::domino;
 use dom_words::{FileList, FnvUnits, Memory, Name, Seq};
+use probe_taps::{CountTap, Tap};
 use std::alloc::Global;
 use std::process::Abort;
 use std::test::Fail;
@@ -64,7 +66,7 @@ fn words_of(alloc: Global, line: &str) -> Result<Vec<String>, Memory> {
     Ok(words)
 }
 
-// What the words give over these files, where these reads and puts fail.
+// What the words give over these files and one tap, which counts, where these reads and puts fail.
 fn answer(
     alloc: Global,
     line: &str,
@@ -75,7 +77,17 @@ fn answer(
     let words = words_of(alloc, line)?;
     let mut shelf = MemShelf::new(alloc, files, reads);
     let mut sink = MemSink::new(alloc, ROOM, puts)?;
-    let status = domino(alloc, words.as_slice(), &mut shelf, &mut sink, &FnvUnits);
+    let mut taps: Vec<Box<dyn Tap>> = Vec::new(alloc);
+    let tap = Box::new(alloc, CountTap::new()).map_err(|_| Memory)?;
+    taps.push(tap).map_err(|_| Memory)?;
+    let status = domino(
+        alloc,
+        words.as_slice(),
+        &mut shelf,
+        &mut sink,
+        &FnvUnits,
+        taps,
+    );
     let held = Vec::from_slice(alloc, sink.held()).map_err(|_| Memory)?;
     Ok(Given { status, held })
 }
@@ -223,7 +235,7 @@ fn refused_traces(rt: HostRuntime) -> Result<(), Fail> {
     Ok(())
 }
 
-const REFUSED_WORDS: [&str; 21] = [
+const REFUSED_WORDS: [&str; 31] = [
     "",
     "run",
     "run raw-tiny p t",
@@ -247,6 +259,14 @@ const REFUSED_WORDS: [&str; 21] = [
     "selfrun raw-small -7 1",
     "selfrun raw-small 4294967296 1",
     "selfrun raw-small 7 400001",
+    "probe c t",
+    "probe c t 0",
+    "probe c t 33",
+    "probe c t 02",
+    "probe c t +2",
+    "probe c t -2",
+    "probe c t two",
+    "probe c t 2 2",
 ];
 
 fn refuses_words(rt: &impl Abort, alloc: Global, lines: &[&str]) -> Result<(), Fail> {
@@ -268,10 +288,11 @@ fn refused_words(rt: HostRuntime) -> Result<(), Fail> {
     refuses_words(&rt, rt.alloc(), &REFUSED_WORDS)
 }
 
-const CUT_REPORTS: [(&str, &str); 6] = [
+const CUT_REPORTS: [(&str, &str); 7] = [
     ("run raw-small p t", "cycle,x,sum\n4,5,5\n7,"),
     ("exec c t", "cycle,x,sum\n4,5,5\n7,"),
     ("watch c t", "cycle,0\nreg,0,5,0,0\ncy"),
+    ("probe c t 2", "cycle,x,sum\n4,5,5\n7,"),
     ("serial p t", "packet,x,sum\n1,5,5\n2,"),
     ("compile raw-small p", "banzai,2\ntarget,raw-small\nfi"),
     (
@@ -280,19 +301,24 @@ const CUT_REPORTS: [(&str, &str); 6] = [
     ),
 ];
 
-#[test]
-fn third_put_fails(rt: HostRuntime) -> Result<(), Fail> {
-    for (command, held) in CUT_REPORTS {
-        let files = files_of(rt.alloc(), PROGRAM, TRACE)?;
-        let failing = vec![in rt.alloc(); (3, 2)]?;
-        let given = answer(rt.alloc(), command, files, Vec::new(rt.alloc()), failing)?;
+// Each row has a command, and what its first two lines and two bytes of the third are.
+fn cuts_each(rt: &impl Abort, alloc: Global, rows: &[(&str, &str)]) -> Result<(), Fail> {
+    for (command, held) in rows {
+        let files = files_of(alloc, PROGRAM, TRACE)?;
+        let failing = vec![in alloc; (3, 2)]?;
+        let given = answer(alloc, command, files, Vec::new(alloc), failing)?;
         assert_eq!(rt; given.status, 5);
         assert_eq!(rt; given.held.as_slice(), held.as_bytes());
     }
     Ok(())
 }
 
-const READS: [(&str, &str, &str, u64, u8); 16] = [
+#[test]
+fn third_put_fails(rt: HostRuntime) -> Result<(), Fail> {
+    cuts_each(&rt, rt.alloc(), &CUT_REPORTS)
+}
+
+const READS: [(&str, &str, &str, u64, u8); 20] = [
     ("run raw-small p t", PROGRAM, TRACE, 2, 0),
     ("serial p t", PROGRAM, TRACE, 2, 0),
     ("run raw-small p t", PROGRAM, "no trace", 2, 3),
@@ -308,6 +334,10 @@ const READS: [(&str, &str, &str, u64, u8); 16] = [
     ("watch c t", PROGRAM, TRACE, 2, 0),
     ("watch c t", PROGRAM, "no trace", 2, 3),
     ("watch p t", PROGRAM, TRACE, 1, 3),
+    ("probe c t 2", PROGRAM, TRACE, 2, 0),
+    ("probe c t 2", PROGRAM, "no trace", 2, 3),
+    ("probe p t 2", PROGRAM, TRACE, 1, 3),
+    ("probe c t 5", PROGRAM, TRACE, 1, 3),
     ("selfrun raw-small 7 1", PROGRAM, TRACE, 0, 0),
 ];
 
@@ -348,6 +378,8 @@ fn failed_reads(rt: HostRuntime) -> Result<(), Fail> {
         ("exec c t", 2),
         ("watch c t", 1),
         ("watch c t", 2),
+        ("probe c t 2", 1),
+        ("probe c t 2", 2),
     ];
     for (command, number) in rows {
         let files = files_of(rt.alloc(), PROGRAM, TRACE)?;
@@ -359,7 +391,7 @@ fn failed_reads(rt: HostRuntime) -> Result<(), Fail> {
     Ok(())
 }
 
-const WHOLE_REPORTS: [(&str, &str); 6] = [
+const WHOLE_REPORTS: [(&str, &str); 7] = [
     (
         "run raw-small p t",
         "cycle,x,sum\n4,5,5\n7,7,12\nstate,total,0,12\nplace,total,1\ndone,2,8\n",
@@ -376,6 +408,10 @@ const WHOLE_REPORTS: [(&str, &str); 6] = [
         "watch c t",
         "cycle,0\nreg,0,5,0,0\ncycle,1\nreg,1,5,0,5\ntouch,1,total,0\ncycle,2\nreg,2,5,0,5\ncycle,3\nreg,0,7,0,0\nreg,3,5,0,5\ncycle,4\nout,5,5\nreg,1,7,0,12\ntouch,1,total,0\ncycle,5\nreg,2,7,0,12\ncycle,6\nreg,3,7,0,12\ncycle,7\nout,7,12\ndone,2,8\n",
     ),
+    (
+        "probe c t 2",
+        "cycle,x,sum\n4,5,5\n7,7,12\nstate,total,0,12\nplace,total,1\ntap,1,2\ndone,2,8\n",
+    ),
     ("compile raw-small p", SHARED),
     (
         "selfrun raw-small 7 1",
@@ -384,28 +420,32 @@ const WHOLE_REPORTS: [(&str, &str); 6] = [
 ];
 
 // One line is one put: where put k takes nothing and fails, the lines before it have been put.
-#[test]
-fn puts(rt: HostRuntime) -> Result<(), Fail> {
-    for (command, report) in WHOLE_REPORTS {
-        let mut before = String::new(rt.alloc());
+fn puts_by_lines(rt: &impl Abort, alloc: Global, rows: &[(&str, &str)]) -> Result<(), Fail> {
+    for (command, report) in rows {
+        let mut before = String::new(alloc);
         let mut number = 0u64;
         for line in report.lines() {
             number = number.saturating_add(1);
-            let files = files_of(rt.alloc(), PROGRAM, TRACE)?;
-            let failing = vec![in rt.alloc(); (number, 0)]?;
-            let given = answer(rt.alloc(), command, files, Vec::new(rt.alloc()), failing)?;
+            let files = files_of(alloc, PROGRAM, TRACE)?;
+            let failing = vec![in alloc; (number, 0)]?;
+            let given = answer(alloc, command, files, Vec::new(alloc), failing)?;
             assert_eq!(rt; given.status, 5);
             assert_eq!(rt; given.held.as_slice(), before.as_bytes());
             before.push_str(line)?;
             before.push_str("\n")?;
         }
-        let files = files_of(rt.alloc(), PROGRAM, TRACE)?;
-        let failing = vec![in rt.alloc(); (number.saturating_add(1), 0)]?;
-        let given = answer(rt.alloc(), command, files, Vec::new(rt.alloc()), failing)?;
+        let files = files_of(alloc, PROGRAM, TRACE)?;
+        let failing = vec![in alloc; (number.saturating_add(1), 0)]?;
+        let given = answer(alloc, command, files, Vec::new(alloc), failing)?;
         assert_eq!(rt; given.status, 0);
         assert_eq!(rt; given.held.as_slice(), before.as_bytes());
     }
     Ok(())
+}
+
+#[test]
+fn puts(rt: HostRuntime) -> Result<(), Fail> {
+    puts_by_lines(&rt, rt.alloc(), &WHOLE_REPORTS)
 }
 
 // What stands before a body, and before the condition of a guard: 78 and 80 bytes.

@@ -144,7 +144,14 @@ fn packets_in_flight(rt: HostRuntime) -> Result<(), Fail> {
         let hash = Noted {
             first: Cell::new(0),
         };
-        let status = domino(alloc, words.as_slice(), &mut shelf, &mut sink, &hash);
+        let status = domino(
+            alloc,
+            words.as_slice(),
+            &mut shelf,
+            &mut sink,
+            &hash,
+            Vec::new(alloc),
+        );
         assert_eq!(rt; status, 0);
         assert_eq!(rt; hash.first.get(), first);
     }
