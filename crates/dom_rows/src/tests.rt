@@ -318,7 +318,7 @@ fn third_put_fails(rt: HostRuntime) -> Result<(), Fail> {
     cuts_each(&rt, rt.alloc(), &CUT_REPORTS)
 }
 
-const READS: [(&str, &str, &str, u64, u8); 20] = [
+const READS: [(&str, &str, &str, u64, u8); 22] = [
     ("run raw-small p t", PROGRAM, TRACE, 2, 0),
     ("serial p t", PROGRAM, TRACE, 2, 0),
     ("run raw-small p t", PROGRAM, "no trace", 2, 3),
@@ -338,6 +338,8 @@ const READS: [(&str, &str, &str, u64, u8); 20] = [
     ("probe c t 2", PROGRAM, "no trace", 2, 3),
     ("probe p t 2", PROGRAM, TRACE, 1, 3),
     ("probe c t 5", PROGRAM, TRACE, 1, 3),
+    ("upgrade c", PROGRAM, TRACE, 1, 0),
+    ("upgrade p", PROGRAM, TRACE, 1, 3),
     ("selfrun raw-small 7 1", PROGRAM, TRACE, 0, 0),
 ];
 

@@ -4,11 +4,15 @@ use std::process::Abort;
 use std::test::Fail;
 
 // Calls of each command and refusals of each kind: the words, the program and the trace.
-const CALLS: [(&str, &str, &str); 14] = [
+const CALLS: [(&str, &str, &str); 18] = [
     ("run raw-small p t", PROGRAM, TRACE),
     ("compile raw-small p", PROGRAM, TRACE),
     ("exec c t", PROGRAM, TRACE),
     ("watch c t", PROGRAM, TRACE),
+    ("probe c t 2", PROGRAM, TRACE),
+    ("probe c t 5", PROGRAM, TRACE),
+    ("upgrade c", PROGRAM, TRACE),
+    ("upgrade p", PROGRAM, TRACE),
     ("serial p t", PROGRAM, TRACE),
     ("selfrun raw-small 7 1", PROGRAM, TRACE),
     ("", PROGRAM, TRACE),
