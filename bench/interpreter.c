@@ -17,6 +17,9 @@ enum { MOST_FIELDS = 64, MOST_ARRAYS = 32, MOST_STAGES = 64, MOST_WIDTH = 2048, 
 
 static enum { RUN, SERIAL, WATCH, SELFRUN } mode;
 
+/* For what `run` does not do: out of its way. */
+#define COLD __attribute__((cold, noinline)) void
+
 enum kind {
     NEG, INV, NOT, MUL, DIV, REM, ADD, SUB, SHL, SHR, LT, LE, GT, GE, EQ, NE, AND, XOR, OR, LAND, LOR, COND, HASH, STATE
 };
@@ -59,6 +62,7 @@ struct atom {
     int32_t to;
     struct port ports[4];
     uint32_t letter, count, modulus;
+    int stage;
     struct slot *slots;
 };
 
@@ -181,6 +185,7 @@ static void read_atom(const char *line)
     struct atom *atom = &atoms[atom_count++];
     if (strcmp(line, "atom") == 0) {
         atom->kind = STATE;
+        atom->stage = depth;
         atom->slots = room(number() * sizeof(struct slot));
         return;
     }
@@ -284,17 +289,24 @@ static uint32_t next(const struct tree *tree, int own, const uint32_t *old, cons
     }
 }
 
-static void run_state(const struct atom *atom, int stage, uint32_t *words)
+static COLD touch(const struct atom *atom, uint32_t *const cells[2])
+{
+    for (uint32_t k = 0; k < atom->count; k++) {
+        const struct slot *slot = &atom->slots[k];
+        touches[touch_count++] = (struct touch){ atom->stage, slot->array, (uint32_t)(cells[k] - slot->words) };
+    }
+}
+
+static void run_state(const struct atom *atom, uint32_t *words)
 {
     uint32_t *cells[2], old[2], new[2];
     for (uint32_t k = 0; k < atom->count; k++) {
         const struct slot *slot = &atom->slots[k];
-        uint32_t index = value(slot->index, words) % slot->length;
-        cells[k] = &slot->words[index];
+        cells[k] = &slot->words[value(slot->index, words) % slot->length];
         old[k] = *cells[k];
-        if (mode == WATCH)
-            touches[touch_count++] = (struct touch){ stage, slot->array, index };
     }
+    if (mode == WATCH)
+        touch(atom, cells);
     for (uint32_t k = 0; k < atom->count; k++)
         new[k] = next(atom->slots[k].tree, (int)k, old, words);
     for (uint32_t k = 0; k < atom->count; k++) {
@@ -331,10 +343,9 @@ static inline uint32_t remainder_of(uint32_t a, uint32_t b)
 #define C value(atom->ports[2], words)
 
 /* The atoms of a stage act one after another in the packet's place. */
-static void run_stage(int stage, uint32_t *words)
+static inline __attribute__((always_inline)) void run_stage(const struct atom *atom, const struct atom *end, uint32_t *words)
 {
-    const struct atom *end = atoms + starts[stage];
-    for (const struct atom *atom = atoms + starts[stage - 1]; atom < end; atom++) {
+    for (; atom < end; atom++) {
         uint32_t *to = &words[atom->to];
         switch (atom->kind) {
         case NEG: *to = 0u - A; break;
@@ -360,7 +371,7 @@ static void run_stage(int stage, uint32_t *words)
         case LOR: *to = A != 0 || B != 0; break;
         case COND: *to = A != 0 ? B : C; break;
         case HASH: *to = run_hash(atom, words); break;
-        case STATE: run_state(atom, stage, words); break;
+        case STATE: run_state(atom, words); break;
         }
     }
 }
@@ -370,7 +381,7 @@ static unsigned char *filled;
 static int newest, in_flight;
 
 /* A line of a cycle that is watched: a word, a number where there is one, and words behind them. */
-static void watched(const char *first, int64_t number, const uint32_t *words, int count)
+static COLD watched(const char *first, int64_t number, const uint32_t *words, int count)
 {
     static char line[12 * MOST_WIDTH + 64];
     char *to = stpcpy(line, first);
@@ -386,8 +397,14 @@ static void watched(const char *first, int64_t number, const uint32_t *words, in
     put(line, (size_t)(to - line));
 }
 
+static COLD before_cycle(void)
+{
+    touch_count = 0;
+    watched("cycle", (int64_t)cycle, NULL, 0);
+}
+
 /* What stands after a cycle, and what was touched in it. */
-static void after_cycle(void)
+static COLD after_cycle(void)
 {
     for (int k = 0; k < depth; k++) {
         int at = newest + k < depth ? newest + k : newest + k - depth;
@@ -411,10 +428,10 @@ static void leave(uint64_t number, const uint32_t *words)
     uint32_t leaving[MOST_FIELDS];
     for (int k = 0; k < fields; k++)
         leaving[k] = value(outputs[k], words);
-    if (mode == WATCH)
-        watched("out", NONE, leaving, fields);
-    else if (mode != SELFRUN)
+    if (mode == RUN || mode == SERIAL)
         packet(number, leaving, fields);
+    else if (mode == WATCH)
+        watched("out", NONE, leaving, fields);
     else
         for (int k = 0; k < fields; k++)
             fold = 31 * fold + leaving[k];
@@ -430,14 +447,13 @@ static inline void enter(uint32_t *words, const uint32_t *entering)
 /* One cycle. What enters is a word for each field, or NULL. */
 static void clock_once(const uint32_t *entering)
 {
-    touch_count = 0;
     if (mode == WATCH)
-        watched("cycle", (int64_t)cycle, NULL, 0);
+        before_cycle();
     if (in_flight > 0)
         for (int j = 0; j < busy_count; j++) {
             int k = busy[j], at = newest + k < depth ? newest + k : newest + k - depth;
             if (filled[at])
-                run_stage(k + 1, ring + (size_t)at * (size_t)width);
+                run_stage(atoms + starts[k], atoms + starts[k + 1], ring + (size_t)at * (size_t)width);
         }
     int oldest = newest == 0 ? depth - 1 : newest - 1;
     uint32_t *words = ring + (size_t)oldest * (size_t)width;
@@ -454,13 +470,13 @@ static void clock_once(const uint32_t *entering)
 }
 
 /* A packet behind so many idle cycles; `serial` has no cycles. */
-static void take(uint32_t gap, const uint32_t *entering)
+static inline void take(uint32_t gap, const uint32_t *entering)
 {
     packets++;
     if (mode == SERIAL) {
         enter(ring, entering);
         for (int j = 0; j < busy_count; j++)
-            run_stage(busy[j] + 1, ring);
+            run_stage(atoms + starts[busy[j]], atoms + starts[busy[j] + 1], ring);
         leave(packets, ring);
         return;
     }
