@@ -23,11 +23,12 @@ ours=() theirs=() hand=()
 
 # rounds OUTPUT: runs ours, theirs and hand in turn, into that output or, where it is `file`, into ours.out, theirs.out and
 # hand.out. times.txt gets a line for each round: time and peak of each, 0 where there are no words or a run failed. There
-# are as many rounds as runs; less, but at least three, where they take over ROW_SECONDS; and one after LIMIT seconds.
+# are as many rounds as runs; less, but at least three, where they take over ROW_SECONDS; and after LIMIT seconds of the script
+# those that fit into about a second, or one.
 rounds() {
     local round who output taken since=$SECONDS
     for ((round = 0; round < runs; round++)); do
-        ((round >= 3 && SECONDS - since >= ${ROW_SECONDS:-100000} || round >= 1 && SECONDS >= ${LIMIT:-100000})) && break
+        ((round >= 3 && SECONDS - since >= ${ROW_SECONDS:-100000} || round >= 1 && SECONDS >= ${LIMIT:-100000} && SECONDS > since)) && break
         for who in ours theirs hand; do
             local -n words="$who"
             taken=""
