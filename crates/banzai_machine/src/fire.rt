@@ -129,8 +129,8 @@ pub(crate) fn fire<T: AtomTemplate>(
     }
 }
 
-// Writes the field words of a packet that leaves.
-pub(crate) fn show(outputs: &Ports, words: &[u32], leaving: &mut [u32])
+/// Writes the field words of a packet that leaves.
+pub fn show(outputs: &Ports, words: &[u32], leaving: &mut [u32])
     requires within { AllByRecursion (λ port. port_below (length words.now) port ≡ true) outputs.now }
     requires size { length leaving.old ≡ length outputs.now }
     ensures words { leaving.new ≡ map (λ port. port_word port words.now) outputs.now }

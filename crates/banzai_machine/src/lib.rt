@@ -10,5 +10,9 @@ mod stage;
 mod touch;
 mod touches;
 
+pub use fire::show;
 pub use machine::Machine;
+pub use make::arrays;
+pub use ring::{enter, run_at};
 pub use touch::Touch;
+pub use touches::Touches;

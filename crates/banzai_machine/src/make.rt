@@ -27,8 +27,8 @@ pub(crate) fn zeros(alloc: Global, count: usize) -> Result<Vec<u32>, Memory>
     }
 }
 
-// The arrays with the words that they start with.
-pub(crate) fn arrays(alloc: Global, declared: &ArrayList) -> Result<Vec<Packet>, Memory>
+/// The arrays with the words that they start with.
+pub fn arrays(alloc: Global, declared: &ArrayList) -> Result<Vec<Packet>, Memory>
     ensures { IfOk result (λ v. v.items ≡ started declared.now) }
 {
     let mut arrays = Seq::new(alloc);

@@ -29,8 +29,8 @@ pub(crate) fn place(position: usize, k: usize, depth: usize) -> usize
     if at < depth { at } else { at - depth }
 }
 
-// A stage on a place of the flat list: all other places stay.
-fn run_at<T: AtomTemplate, H: HashUnits>(
+/// A stage, counted from 0, on a place of a flat list of words: all other places stay.
+pub fn run_at<T: AtomTemplate, H: HashUnits>(
     hash: &H,
     config: &Config<T>,
     k: usize,
@@ -173,8 +173,8 @@ pub(crate) fn advance<T: AtomTemplate, H: HashUnits>(
     }
 }
 
-// Fills the words from the fields that enter, with 0 beyond them.
-fn enter(fields: &[u32], words: &mut [u32])
+/// Fills the words from the fields that enter, with 0 beyond them.
+pub fn enter(fields: &[u32], words: &mut [u32])
     requires { length fields.now ≤ length words.old }
     ensures words { words.new ≡ fields.now ++ replicate (length words.old - length fields.now) 0 }
     ensures size { length words.new ≡ length words.old }

@@ -5,9 +5,9 @@ use dom_words::Memory;
 use std::alloc::Global;
 use std::marker::Model;
 
-// The state words that a cycle touches, in a list whose room is taken once.
+/// The state words that stages touch, in a list whose room is taken once.
 #[derive(Drop)]
-pub(crate) struct Touches {
+pub struct Touches {
     items: Vec<Touch>,
     count: usize,
 }
@@ -24,8 +24,8 @@ impl Model for Touches {
 }
 
 impl Touches {
-    // The empty list with room for so many.
-    pub(crate) fn new(alloc: Global, room: usize) -> Result<Touches, Memory>
+    /// The empty list with room for so many.
+    pub fn new(alloc: Global, room: usize) -> Result<Touches, Memory>
         ensures list { IfOk result (λ t. t.list ≡ []) }
         ensures room { IfOk result (λ t. t.room ≡ room) }
     {
@@ -40,8 +40,8 @@ impl Touches {
         }
     }
 
-    // Forgets all.
-    pub(crate) fn clear(&mut self)
+    /// Forgets all.
+    pub fn clear(&mut self)
         ensures list { self.new.list ≡ [] }
         ensures room { self.new.room ≡ self.old.room }
     {
