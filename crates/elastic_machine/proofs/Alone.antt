@@ -1,12 +1,12 @@
 -- The law of queues, at the events of an Elastic.
-use Rattle.std.proofs.Common.{◌≡◌, ℕ, zero, suc, Bool, true, false, Some, List, [], ◌∷◌, ◌++◌, length, map, take, nat_lt, slice_get, refl, sym, ◌∙◌, ap, append_assoc, append-nil}
+use Rattle.std.proofs.Common.{◌≡◌, ℕ, zero, suc, Bool, true, false, Some, List, [], ◌∷◌, ◌++◌, length, map, take, nat_lt, refl, sym, ◌∙◌, ap, append_assoc, append-nil}
 use Rattle.std.proofs.lemmas.List.{map-append}
 use Rattle.dom_words.specs.State.{Hash, started}
-use Rattle.pipeline_law.specs.Queues.{AreEmpty, Event, Enter, Fire, Leave, Queues, taken, takes, happens, happened, idle_queues}
+use Rattle.pipeline_law.specs.Queues.{Event, Enter, Fire, Leave, Queues, taken, takes, happens, happened, idle_queues}
 use Rattle.pipeline_law.specs.Stage.{items_alone, state_alone}
 use Rattle.pipeline_law.proofs.Theorems.{in_queues, when_empty, whole_when_empty}
 use Rattle.banzai_config.specs.Action.{Arrays, Entry, acts, alone, outcome_of}
-use Rattle.banzai_config.specs.Parts.{PartsForm, StageForm}
+use Rattle.banzai_config.specs.Parts.{PartsForm}
 use Rattle.banzai_machine.specs.Alone.{entries_alone, packets_of}
 use Rattle.banzai_machine.specs.Own.{OwnArrays}
 use Rattle.banzai_machine.specs.Pipe.{entered, own, pipeline, shown}

@@ -1,6 +1,6 @@
 -- What one event does to the queues: where it is ready, and where it is not.
-use Rattle.std.proofs.Common.{◌≡◌, ℕ, zero, suc, List, [], ◌∷◌, ◌++◌, Bool, true, false, refl, sym, ◌∙◌, ap as eq_of, length, nat_lt, Some, slice_get, set, arith}
-use Rattle.pipeline_law.specs.Queues.{Event, Enter, Fire, Leave, Queues, goes, flows, heads_of, rest_of, last_head, last_rest, taken, takes, happens, happened}
+use Rattle.std.proofs.Common.{◌≡◌, ℕ, zero, suc, List, [], ◌∷◌, ◌++◌, Bool, true, false, refl, ap as eq_of, length, nat_lt, Some, slice_get, set, arith}
+use Rattle.pipeline_law.specs.Queues.{Event, Queues, goes, flows, heads_of, rest_of, last_head, last_rest, taken, takes, happens, happened}
 
 module _ {A X S : Type 0} (run : S → A → X → A × X) where
   goes_on : (room : Bool) (s : S) (x : X) (q next : List X) (rest : List (List X)) (n : ℕ) (ns : List ℕ) (a : A) → room ≡ true

@@ -1,4 +1,4 @@
-use Rattle.std.proofs.Common.{◌≤◌, ◌<◌, ◌+◌, ◌*◌, ◌^◌, ℕ, true, arith, mul-le-mul_left}
+use Rattle.std.proofs.Common.{◌≤◌, ◌<◌, ◌+◌, ◌*◌, ◌^◌, true, arith, mul-le-mul_left}
 use Rattle.banzai_config.specs.Checked.{shape_with}
 use Rattle.banzai_config.specs.Legal.{Shape}
 use Rattle.banzai_config.proofs.Staged.{legal_depth, legal_numbers}
