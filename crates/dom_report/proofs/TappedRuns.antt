@@ -14,7 +14,7 @@ use Rattle.trace_text.specs.Lines.{packet_line}
 use Rattle.trace_text.specs.Trace.{cycles_of, entries}
 use Rattle.dom_report.specs.Clocking.{after_cycle, after_entries, left_over}
 use Rattle.dom_report.specs.Report.{packet_lines}
-use Rattle.dom_report.specs.Tapping.{GoesOn, TappedOver}
+use Rattle.dom_report.specs.Tapping.{TappedOver}
 use Rattle.dom_report.proofs.Cycles.{after_entries-append, appended-none, behind_idles}
 use Rattle.dom_report.proofs.Packets.{entries_around, entries_more, entries_of_one, length-entries}
 use Rattle.dom_report.proofs.Parts.{idles, packet_lines-append, part_after, part_before, put_then}

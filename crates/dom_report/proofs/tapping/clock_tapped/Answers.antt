@@ -1,5 +1,4 @@
-use Rattle.std.proofs.Common.{◌≡◌, ◌<◌, ◌+◌, ◌∙◌, [], ap, arith, get_or, length, rules}
-use Rattle.banzai_config.specs.Parts.{PartsForm}
+use Rattle.std.proofs.Common.{◌≡◌, ◌+◌, ◌∙◌, [], ap, arith, length, rules}
 use Rattle.dom_report.proofs.Packets.{cycle_fits, cycle_more}
 use Rattle.dom_report.proofs.TappedRuns.{cycles_drained, drain_fits, drained, drained_part, packet_part, packet_tapped}
 use Rattle.dom_report.proofs.tapping.clock_tapped.Goals as goal
@@ -53,7 +52,7 @@ clock_idle-requires g c =
         (
           rw (c.loop-k.invariant.config, c.loop-k.invariant.same) c.requires.words,
           drain_fits (g.H.HashUnits.meaning c.args.hash.now) _ _ _ (g.S.Sink.held c.loop-k.sink) (g.S.Sink.held c.loop-k.sink) c.args.trace.now c.loop-k.k c.loop-k.number c.loop-k.invariant.number c.loop-k.invariant.clocked
-          (omega arith) c.args.tapped.now.machine.config c.stages-depth.result depth c.requires.cycles,
+              (omega arith) c.args.tapped.now.machine.config c.stages-depth.result depth c.requires.cycles,
         ),
       ),
     )
