@@ -1,5 +1,5 @@
 -- What stands behind the packets of a run under taps, and the whole report.
-use Rattle.std.proofs.Common.{◌≡◌, ℕ, zero, suc, ◌+◌, ◌<◌, ◌-◌, ◌^◌, min, List, [], ◌∷◌, ◌++◌, length, map, take, slice_get, refl, sym, ap, ◌∙◌, subst, append-nil, arith, Option, Some, None, Result, codes}
+use Rattle.std.proofs.Common.{◌≡◌, ℕ, zero, suc, ◌+◌, List, [], ◌∷◌, ◌++◌, length, map, take, slice_get, refl, sym, ap, ◌∙◌, subst, append-nil, arith, Option, Some, Result, codes}
 use Rattle.std.proofs.Math.Seq.{take-length}
 use Rattle.std.proofs.lemmas.List.{length-map}
 use Rattle.pipeline_law.specs.Pipeline.{Row}
@@ -12,7 +12,7 @@ use Rattle.banzai_config.specs.Action.{Arrays, Entry}
 use Rattle.banzai_config.specs.Parts.{PartsForm}
 use Rattle.banzai_machine.specs.Alone.{packets_of}
 use Rattle.banzai_machine.specs.Pipe.{drain, emitted, pipe}
-use Rattle.banzai_machine.specs.State.{MachineForm, Stands}
+use Rattle.banzai_machine.specs.State.{Stands}
 use Rattle.probe_taps.specs.Attached.{AttachedForm, TappedForm}
 use Rattle.probe_taps.specs.Runs.{IsTapped, after_run}
 use Rattle.probe_taps.proofs.Runs.{begins, map_map}

@@ -14,7 +14,7 @@ use Rattle.trace_text.specs.Lines.{packet_line}
 use Rattle.trace_text.specs.Trace.{cycles_of, entries}
 use Rattle.dom_report.specs.Clocking.{after_cycle, after_entries, left_over}
 use Rattle.dom_report.specs.Report.{packet_lines}
-use Rattle.dom_report.specs.Tapping.{GoesOn, TappedOver}
+use Rattle.dom_report.specs.Tapping.{TappedOver}
 use Rattle.dom_report.proofs.Cycles.{after_entries-append, appended-none, behind_idles}
 use Rattle.dom_report.proofs.Packets.{entries_around, entries_more, entries_of_one, length-entries}
 use Rattle.dom_report.proofs.Parts.{idles, packet_lines-append, part_after, part_before, put_then}
@@ -48,10 +48,10 @@ module _ (hash : Hash) where
     held_is = sym (appended-none h);
   }
 
-  module _ (s t u : TappedForm) (h0 h1 h2 : Option (List ℕ)) (number later : ℕ) (xs ys : List Entry) (at_later : later ≡ number + length xs) where
+  module _ (s t : TappedForm) (h0 h1 h2 : Option (List ℕ)) (number later : ℕ) (xs ys : List Entry) (at_later : later ≡ number + length xs) where
     -- entries behind entries
-    pub tapped_then : TappedOver hash s t h0 h1 number xs → TappedOver hash t u h1 h2 later ys → TappedOver hash s u h0 h2 number (xs ++ ys)
-    tapped_then first second = record {
+    pub tapped_then : (u : TappedForm) → TappedOver hash s t h0 h1 number xs → TappedOver hash t u h1 h2 later ys → TappedOver hash s u h0 h2 number (xs ++ ys)
+    tapped_then u first second = record {
       machine_is = second.machine_is ∙ ap (λ (m : MachineForm). after_entries hash m ys) first.machine_is ∙ sym (after_entries-append hash s.machine xs ys);
       run_goes_on =
           λ earlier before taps was.
@@ -79,7 +79,7 @@ module _ (hash : Hash) where
       → TappedOver hash s t h0 h1 number (idles done) → TappedOver hash t u h1 h2 later (None ∷ []) → TappedOver hash s u h0 h2 number (idles (done + 1))
   idle_tapped s t u h0 h1 h2 number later done at_later first second =
       let more : idles done ++ idles 1 ≡ idles (done + 1) = replicate-append-replicate done 1 None in
-      rw (← more) (tapped_then s t u h0 h1 h2 number later (idles done) (idles 1) (behind_idles number later done at_later) first second)
+      rw (← more) (tapped_then s t h0 h1 h2 number later (idles done) (idles 1) (behind_idles number later done at_later) u first second)
 
   -- a line that failed in one of idle cycles
   pub idle_part : (s t : TappedForm) (h0 h1 h2 : Option (List ℕ)) (number later done count : ℕ) → done < count → later ≡ number + done
@@ -91,7 +91,7 @@ module _ (hash : Hash) where
       let all : done + (1 + rest) ≡ count = omega arith in
       let whole : idles done ++ (idles 1 ++ idles rest) ≡ idles count = ap (λ l. idles done ++ l) inner ∙ outer ∙ ap idles all in
       rw (← whole)
-      (part_then s t t h0 h1 h2 number later (idles done) (idles 1 ++ idles rest) (behind_idles number later done at_later) first
+      (part_then s t h0 h1 h2 number later (idles done) (idles 1 ++ idles rest) (behind_idles number later done at_later) first
       (part_more t.machine h1 h2 later (idles 1) (idles rest) part))
 
 -- Packets with their idle cycles, one after another, and the drain behind them.
@@ -108,7 +108,7 @@ module _ (hash : Hash) (s t : TappedForm) (h0 h1 h2 : Option (List ℕ)) (ps : L
     pub packet_tapped : (u : TappedForm) → TappedOver hash t u h1 h2 number (idles gap ++ Some words ∷ []) → TappedOver hash s u h0 h2 0 (entries (take (k + 1) ps))
     packet_tapped u second =
         subst (λ (l : List Entry). TappedOver hash s u h0 h2 0 l) (sym (entries_more ps k d inside))
-        (tapped_then hash s t u h0 h1 h2 0 number (entries (take k ps)) (entries_of_one (get_or ps k d)) at_number first
+        (tapped_then hash s t h0 h1 h2 0 number (entries (take k ps)) (entries_of_one (get_or ps k d)) at_number u first
         (subst (λ (l : List Entry). TappedOver hash t u h1 h2 number l) one_is second))
 
     -- a line that failed in it
@@ -118,7 +118,7 @@ module _ (hash : Hash) (s t : TappedForm) (h0 h1 h2 : Option (List ℕ)) (ps : L
         let rest : List Entry = entries (drop (suc k) ps) in
         subst (λ (l : List Entry). IsPart h0 h2 (lines_of hash s.machine 0 (l ++ drain p))) (sym (entries_around ps k d inside))
         (part_more hash s.machine h0 h2 0 (entries (take k ps) ++ (one ++ rest)) (drain p)
-        (part_then hash s t t h0 h1 h2 0 number (entries (take k ps)) (one ++ rest) at_number first
+        (part_then hash s t h0 h1 h2 0 number (entries (take k ps)) (one ++ rest) at_number first
         (part_more hash t.machine h1 h2 number one rest
         (subst (λ (l : List Entry). IsPart h1 h2 (lines_of hash t.machine number l)) one_is part))))
 
@@ -133,13 +133,13 @@ module _ (hash : Hash) (s t : TappedForm) (h0 h1 h2 : Option (List ℕ)) (ps : L
     pub drained : (u : TappedForm) → TappedOver hash t u h1 h2 number (idles depth) → TappedOver hash s u h0 h2 0 (entries ps ++ drain p)
     drained u second =
         subst (λ (l : List Entry). TappedOver hash s u h0 h2 0 (l ++ drain p)) taken
-        (tapped_then hash s t u h0 h1 h2 0 number (entries (take k ps)) (drain p) at_number first (subst (λ (l : List Entry). TappedOver hash t u h1 h2 number l) drain_is second))
+        (tapped_then hash s t h0 h1 h2 0 number (entries (take k ps)) (drain p) at_number u first (subst (λ (l : List Entry). TappedOver hash t u h1 h2 number l) drain_is second))
 
     -- a line that failed in it
     pub drained_part : IsPart h1 h2 (lines_of hash t.machine number (idles depth)) → IsPart h0 h2 (lines_of hash s.machine 0 (entries ps ++ drain p))
     drained_part part =
         subst (λ (l : List Entry). IsPart h0 h2 (lines_of hash s.machine 0 (l ++ drain p))) taken
-        (part_then hash s t t h0 h1 h2 0 number (entries (take k ps)) (drain p) at_number first (subst (λ (l : List Entry). IsPart h1 h2 (lines_of hash t.machine number l)) drain_is part))
+        (part_then hash s t h0 h1 h2 0 number (entries (take k ps)) (drain p) at_number first (subst (λ (l : List Entry). IsPart h1 h2 (lines_of hash t.machine number l)) drain_is part))
 
     -- and the number of cycles
     pub cycles_drained : number + depth ≡ length (entries ps ++ drain p)

@@ -3,7 +3,6 @@ use dom_io::{MemShelf, MemSink};
 use dom_shell::domino;
 use dom_words::FnvUnits;
 use probe_taps::{CountTap, Tap};
-use std::cell::Cell;
 use std::rc::Rc;
 use std::test::Fail;
 
@@ -131,5 +130,65 @@ fn refused_stages(rt: HostRuntime) -> Result<(), Fail> {
         given.held.as_slice(),
         b"refused,config,depth,0,0\n".as_slice()
     );
+    Ok(())
+}
+
+// Has a share, which goes when the tap is dropped.
+#[derive(Drop)]
+struct SharedTap {
+    share: Rc<u8>,
+}
+
+impl Tap for SharedTap {
+    ghost form = { λ _. record { number = 0; rule = λ number cycle words. number } };
+
+    fn see(&mut self, _cycle: u64, _words: &[u32]) {}
+
+    fn tell(&self) -> u64 {
+        0
+    }
+}
+
+// Every command, also one whose words, stage or files are refused.
+const COMMANDS: [&str; 10] = [
+    "run raw-small p t",
+    "serial p t",
+    "compile raw-small p",
+    "exec c t",
+    "watch c t",
+    "selfrun raw-small 7 1",
+    "probe c t 2",
+    "probe c t 5",
+    "probe p t 2",
+    "probe c t 0",
+];
+
+#[test]
+fn every_tap_is_dropped(rt: HostRuntime) -> Result<(), Fail> {
+    let alloc = rt.alloc();
+    for command in COMMANDS {
+        let words = words_of(alloc, command)?;
+        let files = files_of(alloc, PROGRAM, TRACE)?;
+        let mut shelf = MemShelf::new(alloc, files, Vec::new(alloc));
+        let mut sink = MemSink::new(alloc, ROOM, Vec::new(alloc))?;
+        let share = Rc::new(alloc, 0u8)?;
+        let mut taps: Vec<Box<dyn Tap>> = Vec::new(alloc);
+        for _k in 0..2 {
+            let tap = SharedTap {
+                share: share.clone()?,
+            };
+            taps.push(Box::new(alloc, tap)?)?;
+        }
+        assert_eq!(rt; Rc::strong_count(&share), 3);
+        domino(
+            alloc,
+            words.as_slice(),
+            &mut shelf,
+            &mut sink,
+            &FnvUnits,
+            taps,
+        );
+        assert_eq!(rt; Rc::strong_count(&share), 1);
+    }
     Ok(())
 }

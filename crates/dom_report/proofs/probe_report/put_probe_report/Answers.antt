@@ -1,4 +1,4 @@
-use Rattle.std.proofs.Common.{◌∙◌}
+use Rattle.std.proofs.Common.{◌∙◌, arith, sym}
 use Rattle.probe_taps.specs.Attached.{attached_form, tapped_form}
 use Rattle.dom_report.proofs.ProbeEnd.{heading_stop, is_tapped, report_put, run_stop, same_length}
 use Rattle.dom_report.proofs.probe_report.put_probe_report.Goals as goal
@@ -20,9 +20,10 @@ returns-clause-bytes g c =
     _ _ c.put_end.result c.packets.result c.in-Ok-clock_tapped.cycles c.clock_tapped.ensures.config c.packets.ensures c.in-Ok-clock_tapped.ensures.cycles
     (rw c.requires.fields at c.in-Ok.ensures.bytes) c.put_end.ensures.bytes
 
-pub put_end-requires-clause-taps : goal.put_end-requires-clause-taps
-put_end-requires-clause-taps g c =
+pub put_end-requires : goal.put_end-requires
+put_end-requires g c =
     let told =
     is_tapped (g.H.HashUnits.meaning c.args.hash.now) (tapped_form (λ b. (goal.Tap-dyn g (b.vtable, b.value)).form b.value) c.args.tapped.now.machine c.args.tapped.now.cycle c.args.tapped.now.taps.items)
     c.requires.start c.args.trace.now c.requires.cycle _ (g.S.Sink.held c.head.new.sink) (g.S.Sink.held c.clock_tapped.new.sink) c.in-Ok-clock_tapped.ensures.clocked in
-    rw (same_length (attached_form (λ b. (goal.Tap-dyn g (b.vtable, b.value)).form b.value)) _ c.args.tapped.now.taps.items c.clock_tapped.new.tapped.taps.items told.taps) c.requires.taps
+    let same = same_length (attached_form (λ b. (goal.Tap-dyn g (b.vtable, b.value)).form b.value)) _ c.args.tapped.now.taps.items c.clock_tapped.new.tapped.taps.items told.taps in
+    (omega arith, (rw (c.clock_tapped.ensures.config, c.clock_tapped.ensures.same, c.head.ensures.same) c.requires.arrays, c.requires.taps ∙ sym same))

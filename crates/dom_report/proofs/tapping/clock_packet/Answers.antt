@@ -11,13 +11,13 @@ returns-in_default-clause-part g c =
 pub returns-clause-clocked : goal.returns-clause-clocked
 returns-clause-clocked g c =
     on_ok c.clock_once.result
-    (tapped_then (g.H.HashUnits.meaning c.args.hash.now) _ _ _ _ (g.S.Sink.held c.clock_idle.new.sink) (g.S.Sink.held c.clock_once.new.sink) c.args.number (c.args.number + c.args.gap) (idles c.args.gap) (Some c.args.words.now ∷ [])
-    (behind_idles c.args.number (c.args.number + c.args.gap) c.args.gap refl) c.in-Ok.ensures.clocked)
+    (tapped_then (g.H.HashUnits.meaning c.args.hash.now) _ _ _ (g.S.Sink.held c.clock_idle.new.sink) (g.S.Sink.held c.clock_once.new.sink) c.args.number (c.args.number + c.args.gap) (idles c.args.gap) (Some c.args.words.now ∷ [])
+    (behind_idles c.args.number (c.args.number + c.args.gap) c.args.gap refl) _ c.in-Ok.ensures.clocked)
     c.clock_once.ensures.clocked
 
 pub returns-clause-part : goal.returns-clause-part
 returns-clause-part g c =
     on_err c.clock_once.result
-    (part_then (g.H.HashUnits.meaning c.args.hash.now) _ _ _ _ (g.S.Sink.held c.clock_idle.new.sink) (g.S.Sink.held c.clock_once.new.sink) c.args.number (c.args.number + c.args.gap) (idles c.args.gap) (Some c.args.words.now ∷ [])
+    (part_then (g.H.HashUnits.meaning c.args.hash.now) _ _ _ (g.S.Sink.held c.clock_idle.new.sink) (g.S.Sink.held c.clock_once.new.sink) c.args.number (c.args.number + c.args.gap) (idles c.args.gap) (Some c.args.words.now ∷ [])
     (behind_idles c.args.number (c.args.number + c.args.gap) c.args.gap refl) c.in-Ok.ensures.clocked)
     c.clock_once.ensures.part

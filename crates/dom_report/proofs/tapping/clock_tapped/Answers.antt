@@ -1,12 +1,23 @@
-use Rattle.std.proofs.Common.{◌≡◌, ◌<◌, ◌+◌, ◌∙◌, [], ap, arith, get_or, length, rules}
-use Rattle.banzai_config.specs.Parts.{PartsForm}
+use Rattle.std.proofs.Common.{◌≡◌, ◌+◌, ◌∙◌, [], ap, arith, length, rules}
 use Rattle.dom_report.proofs.Packets.{cycle_fits, cycle_more}
 use Rattle.dom_report.proofs.TappedRuns.{cycles_drained, drain_fits, drained, drained_part, packet_part, packet_tapped}
 use Rattle.dom_report.proofs.tapping.clock_tapped.Goals as goal
 
-pub clock_packet-requires-clause-few : goal.clock_packet-requires-clause-few
-clock_packet-requires-clause-few g c =
-    omega (arith, cycle_fits c.args.trace.now c.loop-k.k c.loop-k.number (0, []) (omega arith) c.loop-k.invariant.number, c.gap.ensures, c.from-gap.ensures, c.requires.cycles)
+pub clock_packet-requires : goal.clock_packet-requires
+clock_packet-requires g c =
+    let entering : length c.fill.new.packet ≡ length c.args.entering.now = search rules in (
+      omega arith,
+      (
+        rw c.loop-k.invariant.config (ap length c.words-words.ensures ∙ entering ∙ c.requires.entering),
+        (
+          rw c.loop-k.invariant.config (c.loop-k.invariant.leaving ∙ c.requires.leaving),
+          (
+            rw (c.loop-k.invariant.config, c.loop-k.invariant.same) c.requires.words,
+            omega (arith, cycle_fits c.args.trace.now c.loop-k.k c.loop-k.number (0, []) (omega arith) c.loop-k.invariant.number, c.gap.ensures, c.from-gap.ensures, c.requires.cycles),
+          ),
+        ),
+      ),
+    )
 
 pub returns-in_default-clause-part : goal.returns-in_default-clause-part
 returns-in_default-clause-part g c =
@@ -32,11 +43,19 @@ loop-k-preserved g c =
       same = c.in-Ok.ensures.same ∙ c.loop-k.invariant.same;
     }
 
-pub clock_idle-requires-clause-few : goal.clock_idle-requires-clause-few
-clock_idle-requires-clause-few g c =
-    let depth = rw (c.config.ensures.same, c.machine.ensures, c.loop-k.invariant.config) at c.stages-depth.ensures in
-    drain_fits (g.H.HashUnits.meaning c.args.hash.now) _ _ _ (g.S.Sink.held c.loop-k.sink) (g.S.Sink.held c.loop-k.sink) c.args.trace.now c.loop-k.k c.loop-k.number c.loop-k.invariant.number c.loop-k.invariant.clocked
-    (omega arith) c.args.tapped.now.machine.config c.stages-depth.result depth c.requires.cycles
+pub clock_idle-requires : goal.clock_idle-requires
+clock_idle-requires g c =
+    let depth = rw (c.config.ensures.same, c.machine.ensures, c.loop-k.invariant.config) at c.stages-depth.ensures in (
+      omega arith,
+      (
+        rw c.loop-k.invariant.config (c.loop-k.invariant.leaving ∙ c.requires.leaving),
+        (
+          rw (c.loop-k.invariant.config, c.loop-k.invariant.same) c.requires.words,
+          drain_fits (g.H.HashUnits.meaning c.args.hash.now) _ _ _ (g.S.Sink.held c.loop-k.sink) (g.S.Sink.held c.loop-k.sink) c.args.trace.now c.loop-k.k c.loop-k.number c.loop-k.invariant.number c.loop-k.invariant.clocked
+              (omega arith) c.args.tapped.now.machine.config c.stages-depth.result depth c.requires.cycles,
+        ),
+      ),
+    )
 
 pub returns-in_default-clock_idle-clause-part : goal.returns-in_default-clock_idle-clause-part
 returns-in_default-clock_idle-clause-part g c =

@@ -1,0 +1,15 @@
+use Rattle.std.proofs.Common.{inl, inr}
+use Rattle.dom_finding.specs.Finding.{tapped}
+use Rattle.probe_taps.specs.Taps.{tap_forms}
+use Rattle.dom_shell.specs.Call.{report_of}
+use Rattle.dom_shell.proofs.Ended.{put_tried}
+use Rattle.dom_shell.proofs.commands.probe.put_probe.Goals as goal
+
+pub returns-in-Ok : goal.returns-in-Ok
+returns-in-Ok g c =
+    inl (put_tried c.put_probe_report.result _
+    (report_of (g.H.HashUnits.meaning c.args.hash.now) (tap_forms (λ b. (goal.Tap-dyn g (b.vtable, b.value)).form b.value) c.args.taps.items) (tapped c.args.stage.number c.args.run'.machine.config c.args.run'.trace))
+    (rw (c.in-Ok.ensures.taps, c.in-Ok.ensures.machine) at c.put_probe_report.ensures.bytes) c.put_probe_report.ensures.cause c.status_of.ensures)
+
+pub returns-in-Err : goal.returns-in-Err
+returns-in-Err g c = inr c.stopped.ensures
