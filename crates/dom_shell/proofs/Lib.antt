@@ -6,6 +6,7 @@ pub mod Ended
 pub mod ExecRuns
 pub mod Headline
 pub mod Over
+pub mod Probed
 pub mod SharedRuns
 pub mod SharedSmall
 pub mod SmallNumbers
