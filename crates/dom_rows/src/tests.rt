@@ -288,36 +288,6 @@ fn refused_words(rt: HostRuntime) -> Result<(), Fail> {
     refuses_words(&rt, rt.alloc(), &REFUSED_WORDS)
 }
 
-const CUT_REPORTS: [(&str, &str); 7] = [
-    ("run raw-small p t", "cycle,x,sum\n4,5,5\n7,"),
-    ("exec c t", "cycle,x,sum\n4,5,5\n7,"),
-    ("watch c t", "cycle,0\nreg,0,5,0,0\ncy"),
-    ("probe c t 2", "cycle,x,sum\n4,5,5\n7,"),
-    ("serial p t", "packet,x,sum\n1,5,5\n2,"),
-    ("compile raw-small p", "banzai,2\ntarget,raw-small\nfi"),
-    (
-        "selfrun raw-small 7 1",
-        "selfrun,raw-small,7,1\npackets,1\ncy",
-    ),
-];
-
-// Each row has a command, and what its first two lines and two bytes of the third are.
-fn cuts_each(rt: &impl Abort, alloc: Global, rows: &[(&str, &str)]) -> Result<(), Fail> {
-    for (command, held) in rows {
-        let files = files_of(alloc, PROGRAM, TRACE)?;
-        let failing = vec![in alloc; (3, 2)]?;
-        let given = answer(alloc, command, files, Vec::new(alloc), failing)?;
-        assert_eq!(rt; given.status, 5);
-        assert_eq!(rt; given.held.as_slice(), held.as_bytes());
-    }
-    Ok(())
-}
-
-#[test]
-fn third_put_fails(rt: HostRuntime) -> Result<(), Fail> {
-    cuts_each(&rt, rt.alloc(), &CUT_REPORTS)
-}
-
 const READS: [(&str, &str, &str, u64, u8); 22] = [
     ("run raw-small p t", PROGRAM, TRACE, 2, 0),
     ("serial p t", PROGRAM, TRACE, 2, 0),
@@ -365,32 +335,6 @@ fn reads_so_many(
 #[test]
 fn reads(rt: HostRuntime) -> Result<(), Fail> {
     reads_so_many(&rt, rt.alloc(), &READS)
-}
-
-// Nothing is read after a read that failed: where all others succeed, the status is 4.
-#[test]
-fn failed_reads(rt: HostRuntime) -> Result<(), Fail> {
-    let rows = [
-        ("run raw-small p t", 1),
-        ("run raw-small p t", 2),
-        ("serial p t", 1),
-        ("serial p t", 2),
-        ("compile raw-small p", 1),
-        ("exec c t", 1),
-        ("exec c t", 2),
-        ("watch c t", 1),
-        ("watch c t", 2),
-        ("probe c t 2", 1),
-        ("probe c t 2", 2),
-    ];
-    for (command, number) in rows {
-        let files = files_of(rt.alloc(), PROGRAM, TRACE)?;
-        let failing = vec![in rt.alloc(); number]?;
-        let given = answer(rt.alloc(), command, files, failing, Vec::new(rt.alloc()))?;
-        assert_eq!(rt; given.status, 4);
-        assert_eq!(rt; given.held.as_slice(), b"".as_slice());
-    }
-    Ok(())
 }
 
 const WHOLE_REPORTS: [(&str, &str); 7] = [

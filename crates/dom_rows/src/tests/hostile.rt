@@ -1,4 +1,4 @@
-use super::{CONFIG, PROGRAM, TRACE, answer, answered, files_of, puts_each, text_of};
+use super::{PROGRAM, TRACE, answer, answered, files_of, puts_each, text_of};
 use dom_words::{Name, Seq};
 use std::alloc::Global;
 use std::process::Abort;
@@ -95,7 +95,7 @@ fn hostile_configs(rt: HostRuntime) -> Result<(), Fail> {
     refuses_changes(&rt, rt.alloc(), &BROKEN_RULES)
 }
 
-// Each text that ends too early: its last line, if it is one, is the line that may not stand.
+// Of each text that ends too early, the line in which it ends may not stand.
 #[test]
 fn config_prefixes(rt: HostRuntime) -> Result<(), Fail> {
     let alloc = rt.alloc();
