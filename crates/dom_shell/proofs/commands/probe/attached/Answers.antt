@@ -8,5 +8,5 @@ returns-clause-set_up g c = same_set_up _ _ _ _ _ _ c.loop-tap.invariant.machine
 
 pub returns-clause-count : goal.returns-clause-count
 returns-clause-count g c =
-    c.len-count.ensures.number
+    c.len-count.ensures
     ∙ sym (as_many (attached_form (λ b. (goal.Tap-dyn g (b.vtable, b.value)).form b.value)) _ (λ b. (goal.Tap-dyn g (b.vtable, b.value)).form b.value) c.loop-tap.tapped.taps.items c.args.taps.items c.loop-tap.invariant.taps)

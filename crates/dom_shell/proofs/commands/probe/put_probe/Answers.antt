@@ -11,5 +11,5 @@ returns-in-Ok g c =
     (report_of (g.H.HashUnits.meaning c.args.hash.now) (tap_forms (λ b. (goal.Tap-dyn g (b.vtable, b.value)).form b.value) c.args.taps.items) (tapped c.args.stage.number c.args.run.machine.config c.args.run.trace))
     (rw (c.in-Ok.ensures.taps, c.in-Ok.ensures.machine, c.in-Ok.ensures.trace) at c.put_tapped.ensures.bytes) c.put_tapped.ensures.cause c.status_of.ensures)
 
-pub returns : goal.returns
-returns g c = inr c.stopped.ensures
+pub returns-in-Err : goal.returns-in-Err
+returns-in-Err g c = inr c.stopped.ensures
