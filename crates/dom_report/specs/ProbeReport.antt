@@ -1,11 +1,13 @@
 -- The report of a run under taps: the report of the run, with a line for each tap before the end.
-use Rattle.std.specs.Prelude.{ℕ, ◌+◌, Some, List, [], ◌∷◌, ◌++◌, codes, length, map}
+use Rattle.std.specs.Prelude.{◌≡◌, ℕ, ◌+◌, ◌≤◌, All, Some, List, [], ◌∷◌, ◌++◌, codes, length, map}
 use Rattle.dom_words.specs.State.{Hash}
-use Rattle.trace_text.specs.Lines.{done_line, head_line, joined, tap_line}
+use Rattle.trace_text.specs.Lines.{Legend, done_line, head_line, joined, tap_line}
+use Rattle.trace_text.specs.Trace.{cycles_of, most_cycles}
 use Rattle.banzai_config.specs.Action.{Arrays, Entry}
 use Rattle.banzai_config.specs.Parts.{PartsForm}
 use Rattle.banzai_machine.specs.Alone.{packets_of}
 use Rattle.banzai_machine.specs.Pipe.{drain, emitted, pipe}
+use Rattle.banzai_machine.specs.State.{MachineForm, Stands}
 use Rattle.probe_taps.specs.Attached.{AttachedForm}
 use Rattle.probe_taps.specs.Runs.{folded, stood}
 use Rattle.probe_taps.specs.Taps.{TapForm}
@@ -40,3 +42,15 @@ probe_report hash taps p entries =
     head_line (codes "cycle") p.fields
     ++ (packet_lines 0 (emitted hash p all)
     ++ joined (probe_end p (pipe hash p all).state (numbers_over hash p taps all) (length (packets_of entries)) (length all)))
+
+-- what a run under taps needs: a machine at its beginning, the names and packets for its configuration, and a word for each
+-- field of what enters and leaves
+pub record IsReady (hash : Hash) (machine : MachineForm) (lines : Legend) (packets : List (ℕ × List ℕ)) (entering leaving : List ℕ) : Type 0 where
+  pub start : Stands hash [] machine
+  pub fields : lines.fields ≡ machine.config.fields
+  pub arrays : lines.arrays ≡ array_names machine.config
+  pub words : length machine.config.fields ≤ lines.words
+  pub each : All (λ p. length p.1 ≡ length machine.config.fields) packets
+  pub cycles : cycles_of packets + length machine.config.stages ≤ most_cycles
+  pub entering_is : length entering ≡ length machine.config.fields
+  pub leaving_is : length leaving ≡ length machine.config.fields

@@ -1,12 +1,11 @@
-ghost use Rattle.std.specs.Prelude.{◌≡◌, ◌+◌, ◌≤◌, [], All, length, map};
-ghost use Rattle.banzai_machine.specs.State.{Stands};
+ghost use Rattle.std.specs.Prelude.{◌≡◌, length, map};
 ghost use Rattle.dom_io.specs.Causes.{HasCause};
 ghost use Rattle.dom_io.specs.Held.{Puts};
-ghost use Rattle.dom_report.specs.ProbeReport.{probe_end, probe_report, tap_lines};
+ghost use Rattle.dom_report.specs.ProbeReport.{IsReady, probe_end, probe_report, tap_lines};
 ghost use Rattle.dom_report.specs.RunReport.{array_names};
 ghost use Rattle.probe_taps.specs.Attached.{attached_forms};
 ghost use Rattle.trace_text.specs.Lines.{joined};
-ghost use Rattle.trace_text.specs.Trace.{cycles_of, entries, most_cycles};
+ghost use Rattle.trace_text.specs.Trace.{entries};
 
 use crate::run_report::{put_places, put_words};
 use crate::tapping::clock_tapped;
@@ -17,8 +16,7 @@ use probe_taps::Tapped;
 use trace_text::{Lines, Trace};
 
 /// Clocks a machine that stands at its beginning under so many taps over the trace's entries and the drain, and puts the
-/// report of `probe`, one line a put (docs/FORMATS.md, "The report of `probe`"). `entering` and `leaving` have a word for
-/// each field. Takes no memory.
+/// report of `probe`, one line a put (docs/FORMATS.md, "The report of `probe`"). Takes no memory.
 pub fn put_probe_report<
     T: AtomTemplate,
     const DEPTH: usize,
@@ -36,16 +34,9 @@ pub fn put_probe_report<
     hash: &H,
     sink: &mut S,
 ) -> Result<(), SinkFault>
-    requires start { Stands (H.meaning hash.now) [] tapped.old.machine }
+    requires ready { IsReady (H.meaning hash.now) tapped.old.machine lines.old trace.now entering.old leaving.old }
     requires cycle { tapped.old.cycle ≡ 0 }
     requires taps { taps ≡ length tapped.old.taps.items }
-    requires words { length tapped.old.machine.config.fields ≤ lines.old.words }
-    requires fields { lines.old.fields ≡ tapped.old.machine.config.fields }
-    requires arrays { lines.old.arrays ≡ array_names tapped.old.machine.config }
-    requires each { All (λ p. length p.1 ≡ length tapped.old.machine.config.fields) trace.now }
-    requires entering { length entering.old ≡ length tapped.old.machine.config.fields }
-    requires leaving { length leaving.old ≡ length tapped.old.machine.config.fields }
-    requires cycles { cycles_of trace.now + length tapped.old.machine.config.stages ≤ most_cycles }
     ensures bytes { Puts (S.held sink.old) (S.held sink.new) (probe_report (H.meaning hash.now) (attached_forms (λ b. form (b.vtable, b.value)) tapped.old.taps.items) tapped.old.machine.config (entries trace.now)) result }
     ensures cause { HasCause (S.faults sink.old) (S.faults sink.new) result }
     ensures config { tapped.new.machine.config ≡ tapped.old.machine.config }

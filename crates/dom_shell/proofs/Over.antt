@@ -129,7 +129,7 @@ module _ (w : ConfigTask) (names : ConfigNames) (hash : Hash) (taps : List TapFo
         (read_on (command_over w names) [] files before now (config_file names.config) config stop (first w names) is_text.0 is_text.1 (config_stops w names files config before now stop kept is)) stopped
 
     -- what is behind its read
-    pub behind_config : (mid : List ℕ → Option (List ℕ)) (before then now : List ℕ → ℕ) (sent : Sent) → ((n : List ℕ) → mid n ≡ files n) → AreKept before then
-        → IsEndAfter (command_over w names) (config ∷ []) (call_of hash taps mid then now sent) → IsEndAfter (command_over w names) [] (call_of hash taps files before now sent)
-    behind_config mid before then now sent same kept end =
-        end_read_on (command_over w names) [] (config_file names.config) config hash taps files mid before then now sent (first w names) is_text.0 is_text.1 same kept end
+    pub behind_config : (mid : List ℕ → Option (List ℕ)) (before after now : List ℕ → ℕ) (sent : Sent) → ((n : List ℕ) → mid n ≡ files n) → AreKept before after
+        → IsEndAfter (command_over w names) (config ∷ []) (call_of hash taps mid after now sent) → IsEndAfter (command_over w names) [] (call_of hash taps files before now sent)
+    behind_config mid before after now sent same kept end =
+        end_read_on (command_over w names) [] (config_file names.config) config hash taps files mid before after now sent (first w names) is_text.0 is_text.1 same kept end

@@ -128,15 +128,18 @@ fn put_over<
             hash,
             sink,
         )),
-        ConfigTask::Watch => status_of(put_watch_report(
-            &mut run.machine,
-            run.lines,
-            &run.trace,
-            &mut run.entering,
-            &mut run.leaving,
-            hash,
-            sink,
-        )),
+        ConfigTask::Watch => {
+            let lines = run.lines;
+            status_of(put_watch_report(
+                &mut run.machine,
+                lines,
+                &run.trace,
+                &mut run.entering,
+                &mut run.leaving,
+                hash,
+                sink,
+            ))
+        }
         ConfigTask::Probe(stage) => put_probe(alloc, stage, run, hash, sink, taps),
     }
 }
