@@ -18,7 +18,7 @@ use Rattle.banzai_machine.specs.Runnable.{empty_stage, stage_at}
 use Rattle.elastic_machine.proofs.Happening.{flow_ready, flow_empty, flow_full, last_at, take_ready, take_full, happened-append}
 use Rattle.elastic_machine.specs.declared.mark.Mark.{Mark}
 use Rattle.elastic_machine.specs.declared.ready.NotReady.{NotReady}
-use Rattle.elastic_machine.specs.Lanes.{MarkWithin, queues_over, packets, queues_in, put_last}
+use Rattle.elastic_machine.specs.Lanes.{MarkWithin, packets, put_last, queue_of, queues_in, queues_over}
 use Rattle.elastic_machine.specs.Ready.{full_waits, empty_waits, fire_waits}
 use Rattle.elastic_machine.specs.Moves.{Passes, Leaves}
 use Rattle.elastic_machine.specs.Kept.{Leads}
@@ -204,6 +204,19 @@ module _ (w cap : ℕ) where
       let rest : length (drop cap all) ≡ length ms * cap = omega (arith, size, length-drop cap all) in
       ap (λ (n : ℕ). n ∷ map length (queues_over cap ms (drop cap all))) (length-queue cap m (take cap all) (take_some cap all long) within.0)
       ∙ ap (λ (z : List ℕ). m.count ∷ z) (counts_over ms (drop cap all) rest within.1)
+
+  few_over : (ms : List Mark) (all : List Entry) → length all ≡ length ms * cap → Every (λ m. MarkWithin cap m) ms → Every (λ q. length q ≤ cap) (queues_over cap ms all)
+  few_over [] all size within = tt
+  few_over (m ∷ ms) all size within =
+      let long : cap ≤ length all = omega (arith, size) in
+      let rest : length (drop cap all) ≡ length ms * cap = omega (arith, size, length-drop cap all) in
+      let here : length (queue_of m (take cap all)) ≡ m.count = length-queue cap m (take cap all) (take_some cap all long) within.0 in
+      (omega (arith, here, within.0.count), few_over ms (drop cap all) rest within.1)
+
+  -- no queue holds more than it may
+  pub few_in : (ms : List Mark) (ws : List ℕ) → Every (λ m. MarkWithin cap m) ms → Every (λ q. length q ≤ cap) (queues_in w cap ms ws)
+  few_in ms ws within =
+      few_over ms (packets w (length ms * cap) ws) (length-places w (replicate (length ms * cap) true) ws ∙ length-replicate (length ms * cap) true) within
 
   pub counts_in : (ms : List Mark) (ws : List ℕ) → Every (λ m. MarkWithin cap m) ms → map length (queues_in w cap ms ws) ≡ map (λ m. m.count) ms
   counts_in ms ws within =

@@ -1,4 +1,5 @@
-ghost use Rattle.std.specs.Prelude.{◌≡◌, ◌+◌, ◌-◌, ◌*◌, ◌<◌, ◌≤◌, ◌^◌, true, Some, List, ℕ, [], ◌∷◌, ◌++◌, length, map, slice_index, All, IfOk, MatchResult, OnErr, OnOk};
+ghost use Rattle.std.specs.Prelude.{◌≡◌, ◌+◌, ◌-◌, ◌*◌, ◌<◌, ◌≤◌, ◌^◌, true, Some, List, ℕ, [], ◌∷◌, ◌++◌, length, map, slice_index, IfOk, MatchResult, OnErr, OnOk};
+ghost use Rattle.std.specs.List.{AllByRecursion};
 ghost use Rattle.dom_words.specs.State.{Hash, array_of};
 ghost use Rattle.pipeline_law.specs.Queues.{Event, Enter, Fire, Leave, last_head};
 ghost use Rattle.banzai_config.specs.Action.{Arrays};
@@ -222,6 +223,7 @@ impl<
         ensures depth { length self.now.config.stages ≡ DEPTH }
         ensures owns { OwnArrays self.now.config.stages }
         ensures queues { length self.now.queues ≡ DEPTH + 1 }
+        ensures held { AllByRecursion (λ queue. length queue ≤ CAP) self.now.queues }
         ensures sizes { map length self.now.state ≡ array_sizes self.now.config }
     {
         &self.config
