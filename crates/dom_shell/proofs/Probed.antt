@@ -4,13 +4,19 @@ use Rattle.std.proofs.lemmas.List.{length-map}
 use Rattle.trace_text.specs.Lines.{Legend}
 use Rattle.dom_words.specs.State.{Hash}
 use Rattle.banzai_machine.specs.State.{MachineForm}
+use Rattle.probe_taps.specs.Attached.{AttachedForm, attached_form, attached_forms}
+use Rattle.probe_taps.specs.Taps.{TapForm, tap_forms}
+use Rattle.probe_taps.specs.declared.attached.Attached.{Attached}
+use Rattle.dom_report.specs.ProbeReport.{attached_at}
 use Rattle.dom_finding.specs.Finding.{Packets}
 use Rattle.dom_report.specs.ProbeReport.{IsReady}
 use Rattle.dom_shell.specs.RunSetUp.{IsRunSetUp}
 
 -- there are as many as were handed in
-pub as_many : {X Y Z W : Type 0} (f : X → Z) (g : W → Z) (h : Y → W) (xs : List X) (ys : List Y) → map f xs ≡ map g (map h ys) → length xs ≡ length ys
-as_many f g h xs ys is = sym (length-map xs f) ∙ ap length is ∙ length-map (map h ys) g ∙ length-map ys h
+pub as_many : {B : Type 0} {depth : ℕ} (form : B → TapForm) (stage : ℕ) (xs : List (Attached B depth)) (ys : List B) → attached_forms form xs ≡ attached_at stage (tap_forms form ys) → length xs ≡ length ys
+as_many form stage xs ys is =
+    let before : TapForm → AttachedForm = λ tap. record { stage = stage; tap = tap } in
+    sym (length-map xs (attached_form form)) ∙ ap length is ∙ length-map (map form ys) before ∙ length-map ys form
 
 -- what a run needs, of a machine that is the same
 pub same_set_up : (now machine : MachineForm) (lines : Legend) (packets : Packets) (entering leaving : List ℕ) → now ≡ machine → IsRunSetUp machine lines packets entering leaving

@@ -21,11 +21,10 @@ use probe_taps::{Tap, Tapped};
 use std::alloc::Global;
 use trace_text::{Lines, Trace};
 
-// What a run under so many taps needs, all of it taken before the first line is put.
+// What a run under taps needs, all of it taken before the first line is put.
 #[derive(Drop)]
 struct Probing<T: AtomTemplate, const DEPTH: usize, const SL: usize, const SF: usize> {
     tapped: Tapped<T, DEPTH, SL, SF>,
-    count: usize,
     lines: Lines,
     trace: Trace,
     entering: Packet,
@@ -53,8 +52,9 @@ pub(crate) fn put_probe<
     requires within { stage.number ≤ DEPTH }
     ensures { IsTriedWithMemory 0 (report_of (H.meaning hash.now) (tap_forms (λ b. form b) taps.items) (job_of stage.number run.machine.config run.trace)) (sent_as result (S.held sink.old) (S.held sink.new) (S.faults sink.old) (S.faults sink.new)) }
 {
+    let count = taps.len();
     match attached(alloc, stage, run, taps) {
-        Ok(probing) => status_of(put_tapped(probing, hash, sink)),
+        Ok(probing) => status_of(put_tapped(probing, count, hash, sink)),
         Err(Memory) => stopped(alloc, Stop::Memory, sink),
     }
 }
@@ -72,7 +72,6 @@ fn attached<T: AtomTemplate, const DEPTH: usize, const SL: usize, const SF: usiz
     ensures machine { IfOk result (λ p. p.tapped.machine ≡ run.machine) }
     ensures trace { IfOk result (λ p. p.trace ≡ run.trace) }
     ensures cycle { IfOk result (λ p. p.tapped.cycle ≡ 0) }
-    ensures count { IfOk result (λ p. p.count ≡ length p.tapped.taps.items) }
     ensures taps { IfOk result (λ p. attached_forms (λ b. form b) p.tapped.taps.items ≡ attached_at stage.number (tap_forms (λ b. form b) taps.items)) }
 {
     let Prepared {
@@ -82,7 +81,6 @@ fn attached<T: AtomTemplate, const DEPTH: usize, const SL: usize, const SF: usiz
         entering,
         leaving,
     } = run;
-    let count = taps.len();
     let mut tapped = Tapped::new(alloc, machine);
     for tap in taps {
         if let Err((_, memory)) = tapped.attach(stage.number, tap) {
@@ -91,7 +89,6 @@ fn attached<T: AtomTemplate, const DEPTH: usize, const SL: usize, const SF: usiz
     }
     Ok(Probing {
         tapped,
-        count,
         lines,
         trace,
         entering,
@@ -99,7 +96,7 @@ fn attached<T: AtomTemplate, const DEPTH: usize, const SL: usize, const SF: usiz
     })
 }
 
-// Puts the report of the run under its taps.
+// Puts the report of the run under its taps, of which there are so many.
 fn put_tapped<
     T: AtomTemplate,
     const DEPTH: usize,
@@ -107,16 +104,21 @@ fn put_tapped<
     const SF: usize,
     S: Sink,
     H: HashUnits,
->(mut probing: Probing<T, DEPTH, SL, SF>, hash: &H, sink: &mut S) -> Result<(), SinkFault>
+>(
+    mut probing: Probing<T, DEPTH, SL, SF>,
+    count: usize,
+    hash: &H,
+    sink: &mut S,
+) -> Result<(), SinkFault>
     requires set_up { IsRunSetUp probing.tapped.machine probing.lines probing.trace probing.entering probing.leaving }
     requires cycle { probing.tapped.cycle ≡ 0 }
-    requires count { probing.count ≡ length probing.tapped.taps.items }
+    requires count { count ≡ length probing.tapped.taps.items }
     ensures bytes { Puts (S.held sink.old) (S.held sink.new) (probe_report (H.meaning hash.now) (attached_forms (λ b. form (b.vtable, b.value)) probing.tapped.taps.items) probing.tapped.machine.config (entries probing.trace)) result }
     ensures cause { HasCause (S.faults sink.old) (S.faults sink.new) result }
 {
     put_probe_report(
         &mut probing.tapped,
-        probing.count,
+        count,
         &mut probing.lines,
         &probing.trace,
         &mut probing.entering,

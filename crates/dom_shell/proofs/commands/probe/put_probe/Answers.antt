@@ -1,8 +1,9 @@
-use Rattle.std.proofs.Common.{inl, inr}
+use Rattle.std.proofs.Common.{◌∙◌, arith, inl, inr, sym}
 use Rattle.dom_finding.specs.Finding.{tapped}
 use Rattle.probe_taps.specs.Taps.{tap_forms}
 use Rattle.dom_shell.specs.Call.{report_of}
 use Rattle.dom_shell.proofs.Ended.{put_tried}
+use Rattle.dom_shell.proofs.Probed.{as_many}
 use Rattle.dom_shell.proofs.commands.probe.put_probe.Goals as goal
 
 pub returns-in-Ok : goal.returns-in-Ok
@@ -13,3 +14,12 @@ returns-in-Ok g c =
 
 pub returns-in-Err : goal.returns-in-Err
 returns-in-Err g c = inr c.stopped.ensures
+
+pub put_tapped-requires : goal.put_tapped-requires
+put_tapped-requires g c = (
+  omega arith,
+  (
+    c.in-Ok.ensures.set_up,
+    (c.in-Ok.ensures.cycle, c.len-count.ensures ∙ c.args.taps.ok.0 ∙ sym (as_many _ c.args.stage.number c.in-Ok.probing.tapped.taps.items c.args.taps.items c.in-Ok.ensures.taps)),
+  ),
+)
