@@ -26,8 +26,8 @@ returns-in-Ok-parts_in-clause-end g c =
 pub returns-in-Ok-parts_in-clause-files : goal.returns-in-Ok-parts_in-clause-files
 returns-in-Ok-parts_in-clause-files g c name = c.on_target.ensures.files name ∙ c.in-Ok.ensures.files name
 
-pub returns-clause-end : goal.returns-clause-end
-returns-clause-end g c =
+pub returns-in-Err-parts_in-clause-end : goal.returns-in-Err-parts_in-clause-end
+returns-in-Err-parts_in-clause-end g c =
     let is = lemma.text_of (g.F.Shelf.content c.args.shelf.now) (ask_of c.config_file.result) (config_file c.args.files.config.now) c.in-Ok.text.items c.config_file.ensures c.in-Ok.ensures.text in
     no_config c.args.what (configs_in c.args.files) (g.H.HashUnits.meaning c.args.hash.now) (tap_forms (λ b. (goal.Tap-dyn g (b.vtable, b.value)).form b.value) c.args.taps.items) (g.F.Shelf.content c.args.shelf.now) c.in-Ok.text.items is (g.F.Shelf.faults c.args.shelf.now) (g.F.Shelf.faults c.text_in.new.shelf)
     (sent_as c.stopped-in-Err-parts_in.result (g.S.Sink.held c.args.sink.now) (g.S.Sink.held c.stopped-in-Err-parts_in.new.sink) (g.S.Sink.faults c.args.sink.now) (g.S.Sink.faults c.stopped-in-Err-parts_in.new.sink)) c.in-Err-parts_in.stop
