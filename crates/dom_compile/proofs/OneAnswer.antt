@@ -57,10 +57,10 @@ module _ (s : Shape) (text : List ℕ) where
 
   -- No text is two things.
 
-  ill_or_well : (f : ProgramFault) (p : CheckedForm) → IsProgram text (Err f) → IsProgram text (Ok p) → ⊥
+  pub ill_or_well : (f : ProgramFault) (p : CheckedForm) → IsProgram text (Err f) → IsProgram text (Ok p) → ⊥
   ill_or_well f p a b = let e = one_program text (Err f) (Ok p) a b in cc
 
-  long_or_listed : (n : ℕ) (c : Codelets) → Is (Err (too_many n)) → IsCompiled text c.flat → ⊥
+  pub long_or_listed : (n : ℕ) (c : Codelets) → Is (Err (too_many n)) → IsCompiled text c.flat → ⊥
   long_or_listed n c a b =
       let e = one_program text (Ok a.0) (Ok b.program) a.1 b.program_is in
       let same : a.0 ≡ b.program = cc in
@@ -69,7 +69,7 @@ module _ (s : Shape) (text : List ℕ) where
       let few = c.flat.few_lines in
       omega arith
 
-  outside_or_fitted : (n : ℕ) (c : Codelets) → Is (Err (outside n)) → IsFitted s.fits s.multiplies text c → ⊥
+  pub outside_or_fitted : (n : ℕ) (c : Codelets) → Is (Err (outside n)) → IsFitted s.fits s.multiplies text c → ⊥
   outside_or_fitted n c a b =
       let none : inside_of a.0 ≡ None = same_outside a.0 c (one_drawn text a.0 c a.1 b.listed) s.fits s.multiplies ∙ b.inside in
       let e : Some n ≡ option_map (λ (x : Codelet). x.first) None = sym a.2 ∙ ap (option_map (λ (x : Codelet). x.first)) none in

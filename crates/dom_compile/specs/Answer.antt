@@ -1,6 +1,7 @@
 -- What a text compiles to for a target: a configuration, or the first cause why it has none.
 use Rattle.std.specs.Prelude.{◌≡◌, ◌<◌, ◌≤◌, ℕ, Bool, List, [], length, None, Result, Ok, Err}
 use Rattle.codelets.specs.declared.answer.Codelets.{Codelets}
+use Rattle.codelets.specs.declared.codelet.Codelet.{Codelet}
 use Rattle.codelets.specs.declared.codelet.Kind.{Kind}
 use Rattle.stage_plan.specs.declared.place.Place.{Place}
 use Rattle.stage_plan.specs.declared.fault.PlanFault.TheVariants.{Full, TooDeep}
@@ -17,7 +18,7 @@ use Rattle.container_plan.specs.Shared.{shared}
 use Rattle.dom_ast.specs.Resolved.{CheckedForm}
 use Rattle.dom_compile.specs.declared.faults.CompileFault.{CompileFault}
 use Rattle.dom_compile.specs.declared.faults.CompileFault.TheVariants as fault
-use Rattle.dom_compile.specs.Compiled.{IsCause, IsCompiled, listed}
+use Rattle.dom_compile.specs.Compiled.{IsCompiled, listed}
 use Rattle.dom_compile.specs.Verdict.{IsProgram, ProgramFault, of_bytes, of_names, of_tokens}
 
 -- why a text has no configuration, in the order in which the causes are looked for: it is no well-formed program; so many
@@ -63,13 +64,23 @@ IsCompileAnswer s text (Err (too_deep chain)) =
 IsCompileAnswer s text (Err (full n kind stage)) =
     (codelets : Codelets) × IsFitted s.fits s.multiplies text codelets × IsPlanFault s.depth s.stateless s.stateful codelets.list (Full n kind stage)
 
--- why a text has no codelets that fit; want of memory needs no cause
+-- what a text is for a template's test and a target with or without multipliers: codelets that fit, or the first cause why it
+-- has none; no stages are asked for
+abbrev pub IsFrontAnswer : (TreesForm → Bool) → Bool → List ℕ → Result (List Codelet) CompileRefusal → Type 0
+IsFrontAnswer fits multiplies text (Ok list) = (codelets : Codelets) × IsFitted fits multiplies text codelets × (list ≡ codelets.list)
+IsFrontAnswer fits multiplies text (Err (ill_formed fault)) = IsProgram text (Err fault)
+IsFrontAnswer fits multiplies text (Err (too_many n)) = (program : CheckedForm) × IsProgram text (Ok program) × (n ≡ length (listed program).lines) × (512 < n)
+IsFrontAnswer fits multiplies text (Err (outside n)) = IsOutside fits multiplies text n
+IsFrontAnswer fits multiplies text (Err (too_deep chain)) = ⊥
+IsFrontAnswer fits multiplies text (Err (full n kind stage)) = ⊥
+
+-- a fault is what the text is; want of memory needs no cause
 abbrev pub IsFrontFault : (TreesForm → Bool) → Bool → List ℕ → CompileFault → Type 0
-IsFrontFault fits multiplies text (fault.Lex f) = IsCause text (fault.Lex f)
-IsFrontFault fits multiplies text (fault.Parse f) = IsCause text (fault.Parse f)
-IsFrontFault fits multiplies text (fault.Check f) = IsCause text (fault.Check f)
-IsFrontFault fits multiplies text (fault.TooManyStatements n) = IsCause text (fault.TooManyStatements n)
-IsFrontFault fits multiplies text (fault.Outside n) = IsOutside fits multiplies text n
+IsFrontFault fits multiplies text (fault.Lex f) = IsFrontAnswer fits multiplies text (Err (ill_formed (of_bytes f)))
+IsFrontFault fits multiplies text (fault.Parse f) = IsFrontAnswer fits multiplies text (Err (ill_formed (of_tokens f)))
+IsFrontFault fits multiplies text (fault.Check f) = IsFrontAnswer fits multiplies text (Err (ill_formed (of_names f)))
+IsFrontFault fits multiplies text (fault.TooManyStatements n) = IsFrontAnswer fits multiplies text (Err (too_many n))
+IsFrontFault fits multiplies text (fault.Outside n) = IsFrontAnswer fits multiplies text (Err (outside n))
 IsFrontFault fits multiplies text (fault.TooDeep chain) = ⊥
 IsFrontFault fits multiplies text (fault.Full n kind stage) = ⊥
 IsFrontFault fits multiplies text fault.Memory = Unit {0}

@@ -1,9 +1,11 @@
-ghost use Rattle.std.specs.Prelude.{◌≡◌, ◌≤◌, IfErr, IfOk, Ok, length, map};
+ghost use Rattle.std.specs.Prelude.{◌≡◌, ◌≤◌, IfErr, IfOk, Ok, length, map, true};
 ghost use Rattle.atom_match.specs.Atoms.{atom_form};
 ghost use Rattle.banzai_config.specs.Checked.{shape_with};
+ghost use Rattle.banzai_config.specs.Legal.{are_names, name_of_array};
 ghost use Rattle.compile_law.specs.Compiled.{AreAtomsOf};
 ghost use Rattle.dom_compile.specs.Answer.{IsCompileAnswer, IsCompileFault, IsFitted, IsFrontFault};
 ghost use Rattle.dom_compile.specs.Compiled.{IsCause, IsCompiled};
+ghost use Rattle.dom_compile.specs.InOrder.{IsFront};
 
 use crate::faults::CompileFault;
 use crate::passes::statements;
@@ -41,14 +43,20 @@ pub fn compile<
     Ok(share::<T, DEPTH, SL, SF, MUL>(alloc, config)?)
 }
 
-/// The codelets of the program that a text spells, and their atoms.
-fn front<T: AtomTemplate, const MUL: bool>(
+/// The codelets of the program that a text of at most 65,536 bytes spells, with their atoms; or the first cause why they have
+/// none: the refusals of `compile` up to `Outside`, in the same order. The program has at most 512 statements, and the
+/// codelets, done in their order, make of each packet and state what its transactions do (docs/ARCHITECTURE.md, "The way of a
+/// program").
+pub fn front<T: AtomTemplate, const MUL: bool>(
     alloc: Global,
     text: &[u8],
 ) -> Result<(Codelets, Atoms<T>), CompileFault>
     requires { length text.now ≤ 65536 }
     ensures fitted { IfOk result (λ found. IsFitted T.fits MUL text.now found.0) }
     ensures atoms { IfOk result (λ found. AreAtomsOf found.0 (map (atom_form T.trees_of) found.1.list)) }
+    ensures program { IfOk result (λ found. IsFront text.now found.0 (map (atom_form T.trees_of) found.1.list)) }
+    ensures fields { IfOk result (λ found. are_names found.0.flat.fields ≡ true) }
+    ensures arrays { IfOk result (λ found. are_names (map name_of_array found.0.flat.arrays) ≡ true) }
     ensures refused { IfErr result (λ fault. IsFrontFault T.fits MUL text.now fault) }
 {
     let codelets = cut(alloc, text)?;

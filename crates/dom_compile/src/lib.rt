@@ -6,5 +6,5 @@ mod faults;
 pub mod laws;
 mod passes;
 
-pub use compiling::compile;
+pub use compiling::{compile, front};
 pub use faults::CompileFault;

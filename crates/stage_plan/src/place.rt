@@ -27,6 +27,13 @@ impl Model for Stages {
 }
 
 impl Stages {
+    /// Places of codelets in their order. Takes no memory.
+    pub fn of(places: Vec<Place>) -> Stages
+        ensures { result ≡ places.items }
+    {
+        Stages { places }
+    }
+
     /// The stage of the codelet at a position.
     pub fn stage(&self, codelet: usize) -> u32
         requires { codelet < length self.now }
