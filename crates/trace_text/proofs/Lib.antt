@@ -1,3 +1,4 @@
+pub mod EventLines
 pub mod Once
 pub mod Reading
 pub mod Records

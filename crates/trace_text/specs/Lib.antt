@@ -1,3 +1,5 @@
+pub mod EventWords
+pub mod Events
 pub mod Lines
 pub mod Rows
 pub mod Stored

@@ -35,7 +35,7 @@ count_text count = decimal count
 abbrev pub name_at : List (List ℕ) → ℕ → List ℕ
 name_at names k = slice_index_or names k []
 
--- the heading: `cycle` or `packet`, and then each field's name
+-- the heading: `cycle`, `packet` or `event`, and then each field's name
 abbrev pub head_line : List ℕ → List (List ℕ) → List ℕ
 head_line word fields = line_of (word ∷ fields)
 
@@ -71,7 +71,19 @@ reg_line k words = line_of (codes "reg" ∷ count_text k ∷ map word_text words
 abbrev pub touch_line : ℕ → List ℕ → ℕ → List ℕ
 touch_line stage name index = line_of (codes "touch" ∷ count_text stage ∷ name ∷ count_text index ∷ [])
 
--- the end: how many packets, and in how many cycles where cycles are counted
+-- an event that was not ready, by its number
+abbrev pub wait_line : ℕ → List ℕ
+wait_line number = line_of (codes "wait" ∷ count_text number ∷ [])
+
+-- how many packets are held
+abbrev pub held_line : ℕ → List ℕ
+held_line count = line_of (codes "held" ∷ count_text count ∷ [])
+
+-- a packet is dropped: the cycle, and its words
+abbrev pub drop_line : ℕ → List ℕ → List ℕ
+drop_line cycle words = line_of (codes "drop" ∷ count_text cycle ∷ map word_text words)
+
+-- the end: how many packets, and in how many cycles where cycles are counted, or how many of them have left
 abbrev pub done_line : ℕ → Option ℕ → List ℕ
 done_line packets cycles = line_of (codes "done" ∷ count_text packets ∷ map count_text (option_to_list cycles))
 

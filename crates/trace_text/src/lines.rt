@@ -1,7 +1,7 @@
 ghost use Rattle.std.specs.Prelude.{◌≡◌, ◌+◌, ◌*◌, ◌<◌, ◌≤◌, ◌⊎◌, ℕ, All, List, [], ◌∷◌, ◌++◌, codes, length, map, max, vec_capacity, vec_len, IfOk, IfSome};
 ghost use Rattle.dom_io.specs.Causes.{HasCause};
 ghost use Rattle.dom_io.specs.Held.{Puts};
-ghost use Rattle.trace_text.specs.Lines.{after_commas, clock_line, count_text, done_line, head_line, HasRoom, name_at, out_line, packet_line, place_line, reg_line, state_line, tap_line, touch_line, word_text};
+ghost use Rattle.trace_text.specs.Lines.{after_commas, clock_line, count_text, done_line, drop_line, head_line, held_line, HasRoom, name_at, out_line, packet_line, place_line, reg_line, state_line, tap_line, touch_line, wait_line, word_text};
 
 use dom_io::{Sink, SinkFault};
 use dom_words::{ArrayList, Memory, Name, Names, Seq, signed};
@@ -57,9 +57,9 @@ impl Lines {
         })
     }
 
-    /// Puts the heading: the word, `cycle` or `packet`, and the fields' names.
+    /// Puts the heading: the word, `cycle`, `packet` or `event`, and the fields' names.
     pub fn head<S: Sink>(&mut self, sink: &mut S, word: &str) -> Result<(), SinkFault>
-        requires { (word.now ≡ codes "cycle") ⊎ (word.now ≡ codes "packet") }
+        requires { (word.now ≡ codes "cycle") ⊎ ((word.now ≡ codes "packet") ⊎ (word.now ≡ codes "event")) }
         ensures bytes { Puts (S.held sink.old) (S.held sink.new) (head_line word.now self.old.fields) result }
         ensures cause { HasCause (S.faults sink.old) (S.faults sink.new) result }
         ensures same { self.new ≡ self.old }
@@ -189,6 +189,46 @@ impl Lines {
         self.line.count(u64::from(stage));
         self.line.text(self.arrays.get(array).as_bytes());
         self.line.count(u64::from(index));
+        self.line.put(sink)
+    }
+
+    /// Puts the line of an event that was not ready: its number.
+    pub fn wait<S: Sink>(&mut self, sink: &mut S, number: u64) -> Result<(), SinkFault>
+        ensures bytes { Puts (S.held sink.old) (S.held sink.new) (wait_line number) result }
+        ensures cause { HasCause (S.faults sink.old) (S.faults sink.new) result }
+        ensures same { self.new ≡ self.old }
+    {
+        self.line.start(b"wait");
+        self.line.count(number);
+        self.line.put(sink)
+    }
+
+    /// Puts the line of how many packets are held.
+    pub fn held<S: Sink>(&mut self, sink: &mut S, count: u64) -> Result<(), SinkFault>
+        ensures bytes { Puts (S.held sink.old) (S.held sink.new) (held_line count) result }
+        ensures cause { HasCause (S.faults sink.old) (S.faults sink.new) result }
+        ensures same { self.new ≡ self.old }
+    {
+        self.line.start(b"held");
+        self.line.count(count);
+        self.line.put(sink)
+    }
+
+    /// Puts the line of a packet that is dropped: the cycle, and its words as signed numbers.
+    pub fn drop<S: Sink>(
+        &mut self,
+        sink: &mut S,
+        cycle: u64,
+        words: &[u32],
+    ) -> Result<(), SinkFault>
+        requires { length words.now ≤ self.old.words }
+        ensures bytes { Puts (S.held sink.old) (S.held sink.new) (drop_line cycle words.now) result }
+        ensures cause { HasCause (S.faults sink.old) (S.faults sink.new) result }
+        ensures same { self.new ≡ self.old }
+    {
+        self.line.start(b"drop");
+        self.line.count(cycle);
+        self.line.words(words);
         self.line.put(sink)
     }
 
