@@ -3,10 +3,13 @@ pub mod Cycles
 pub mod Draws
 pub mod DrivenEnd
 pub mod DrivenLines
+pub mod ElasticLaws
+pub mod ElasticRuns
 pub mod InTurn
 pub mod Packets
 pub mod Parts
 pub mod ProbeEnd
+pub mod RankedRuns
 pub mod Reports
 pub mod Summaries
 pub mod TappedRuns

@@ -1,7 +1,12 @@
 pub mod Clocking
 pub mod Driving
+pub mod ElasticEvents
+pub mod ElasticLaw
+pub mod ElasticReport
 pub mod Folding
 pub mod ProbeReport
+pub mod RankedCycles
+pub mod RankedReport
 pub mod Report
 pub mod RunReport
 pub mod SelfRun
