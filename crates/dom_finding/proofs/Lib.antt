@@ -1,3 +1,4 @@
+pub mod Listed
 pub mod OneConfig
 pub mod OneFinding
 pub mod Stopped

@@ -1,5 +1,5 @@
 -- Why a fault stops a command.
-use Rattle.std.proofs.Common.{◌≡◌, ℕ, ◌≤◌, List, ◌∷◌, length, refl, sym, ◌∙◌, subst, arith, Option, IfSome, Result, Err}
+use Rattle.std.proofs.Common.{◌≡◌, ℕ, ◌≤◌, Bool, List, ◌∷◌, length, refl, sym, ◌∙◌, subst, arith, Option, IfSome, Result, Err}
 use Rattle.dom_io.specs.Causes.{Rose}
 use Rattle.dom_lexer.specs.declared.token.Token.{Token}
 use Rattle.dom_lexer.specs.declared.token.LexFault.{LexFault}
@@ -12,6 +12,9 @@ use Rattle.dom_ast.specs.Form.{ProgramForm}
 use Rattle.dom_checks.specs.declared.faults.CheckFault.{CheckFault}
 use Rattle.dom_checks.specs.declared.faults.CheckFault.TheVariants as check
 use Rattle.dom_checks.specs.Verdict.{IsViolation}
+use Rattle.trace_text.specs.Events.{IsEventsOf, line_in}
+use Rattle.trace_text.specs.declared.events.EventsFault.{EventsFault}
+use Rattle.trace_text.specs.declared.events.EventsFault.TheVariants as bad
 use Rattle.trace_text.specs.Trace.{IsTraceOf, refusal_of}
 use Rattle.trace_text.specs.Trace as trace
 use Rattle.trace_text.specs.declared.trace.TraceFault.{TraceFault}
@@ -19,7 +22,8 @@ use Rattle.trace_text.specs.declared.trace.TraceFault.TheVariants as fault
 use Rattle.dom_compile.specs.Programs.{HasProgram, HasTokens}
 use Rattle.dom_compile.specs.Verdict.{IsProgram, of_bytes, of_names, of_tokens}
 use Rattle.banzai_config.specs.Legal.{Shape}
-use Rattle.dom_compile.specs.Answer.{IsCompileAnswer, IsCompileFault, full, ill_formed, outside, too_deep, too_many}
+use Rattle.atom_traits.specs.Form.{TreesForm}
+use Rattle.dom_compile.specs.Answer.{IsCompileAnswer, IsCompileFault, IsFrontAnswer, IsFrontFault, full, ill_formed, outside, too_deep, too_many}
 use Rattle.dom_compile.specs.declared.faults.CompileFault.{CompileFault}
 use Rattle.dom_compile.specs.declared.faults.CompileFault.TheVariants as compile
 use Rattle.banzai_config.specs.Checked.{IsFaultOf}
@@ -32,11 +36,15 @@ use Rattle.config_text.specs.Fronts.{TextOf}
 use Rattle.config_text.specs.ReadFaults.{IsReadFault}
 use Rattle.config_text.specs.declared.fault.ReadFault.{ReadFault}
 use Rattle.config_text.specs.declared.fault.ReadFault.TheVariants as read
+use Rattle.codelets.specs.declared.codelet.Codelet.{Codelet}
+use Rattle.plan_check.specs.PlanText.{IsPlanAnswer, IsReadFault as IsPlanFault}
+use Rattle.plan_check.specs.declared.fault.PlanTextFault.{PlanTextFault}
+use Rattle.plan_check.specs.declared.fault.PlanTextFault.TheVariants as wrong
 use Rattle.dom_finding.specs.Command.{Command}
 use Rattle.dom_finding.specs.Configs.{IsConfig, bad_line, illegal, unknown_target}
 use Rattle.dom_finding.specs.Finding.{Ask, IsFoundAfter, IsNext, MayHold, ask, ends, found, here, later, over, reads}
-use Rattle.dom_finding.specs.Refusals.{refused_compile, refused_config, refused_program, refused_trace}
-use Rattle.dom_finding.specs.Stops.{AreKept, FileStop, StopAfter, TextStop, stop_of_check, stop_of_compile, stop_of_config, stop_of_lex, stop_of_parse, stop_of_read, trace_stop}
+use Rattle.dom_finding.specs.Refusals.{refused_compile, refused_config, refused_events, refused_plan, refused_program, refused_trace}
+use Rattle.dom_finding.specs.Stops.{AreKept, FileStop, StopAfter, TextStop, events_stop, plan_stop, stop_of_check, stop_of_compile, stop_of_config, stop_of_lex, stop_of_parse, stop_of_read, trace_stop}
 use Rattle.dom_finding.specs.declared.reading.Stop.{Stop}
 use Rattle.dom_finding.specs.declared.reading.Stop.TheVariants.{Refused, Unread, Memory}
 use Rattle.dom_finding.specs.declared.refusals.Refusal.{Refusal}
@@ -143,6 +151,45 @@ trace_first text fields depth fault.Memory says = tt
 pub trace_stops : (text : List ℕ) (fields : List (List ℕ)) (depth : ℕ) (f : TraceFault) (stop : Stop) → stop ≡ trace_stop f
     → IfSome (refusal_of f) (λ r. IsTraceOf text fields depth (Err r)) → StopsTrace text fields depth stop
 trace_stops text fields depth f stop is says = subst (λ (s : Stop). StopsTrace text fields depth s) (sym is) (trace_first text fields depth f says)
+
+-- the first refusal of events
+abbrev pub StopsEvents : List ℕ → ℕ → Stop → Type 0
+StopsEvents text depth stop = TextStop (IsEventsOf text depth) refused_events stop
+
+events_first : (text : List ℕ) (depth : ℕ) (f : EventsFault) → IfSome (line_in f) (λ n. IsEventsOf text depth (Err n)) → StopsEvents text depth (events_stop f)
+events_first text depth (bad.Line n) says = (n, says, refl)
+events_first text depth bad.Memory says = tt
+
+pub events_stops : (text : List ℕ) (depth : ℕ) (f : EventsFault) (stop : Stop) → stop ≡ events_stop f → IfSome (line_in f) (λ n. IsEventsOf text depth (Err n)) → StopsEvents text depth stop
+events_stops text depth f stop is says = subst (λ (s : Stop). StopsEvents text depth s) (sym is) (events_first text depth f says)
+
+-- the first refusal of a plan's text
+abbrev pub StopsPlan : ℕ → List Codelet → List ℕ → Stop → Type 0
+StopsPlan depth cs text stop = TextStop (IsPlanAnswer depth cs text) refused_plan stop
+
+plan_first : (depth : ℕ) (cs : List Codelet) (text : List ℕ) (f : PlanTextFault) → IsPlanFault depth cs text f → StopsPlan depth cs text (plan_stop f)
+plan_first depth cs text (wrong.Line n) says = (n, says, refl)
+plan_first depth cs text wrong.Memory says = tt
+
+pub plan_stops : (depth : ℕ) (cs : List Codelet) (text : List ℕ) (f : PlanTextFault) (stop : Stop) → stop ≡ plan_stop f → IsPlanFault depth cs text f → StopsPlan depth cs text stop
+plan_stops depth cs text f stop is says = subst (λ (s : Stop). StopsPlan depth cs text s) (sym is) (plan_first depth cs text f says)
+
+-- the stop of codelets
+abbrev pub StopsFront : (TreesForm → Bool) → Bool → List ℕ → Stop → Type 0
+StopsFront fits multiplies text stop = TextStop (IsFrontAnswer fits multiplies text) refused_compile stop
+
+front_first : (fits : TreesForm → Bool) (multiplies : Bool) (text : List ℕ) (f : CompileFault) → IsFrontFault fits multiplies text f → StopsFront fits multiplies text (stop_of_compile f)
+front_first fits multiplies text (compile.Lex f) says = (ill_formed (of_bytes f), says, refl)
+front_first fits multiplies text (compile.Parse f) says = (ill_formed (of_tokens f), says, refl)
+front_first fits multiplies text (compile.Check f) says = (ill_formed (of_names f), says, refl)
+front_first fits multiplies text (compile.TooManyStatements n) says = (too_many n, says, refl)
+front_first fits multiplies text (compile.Outside n) says = (outside n, says, refl)
+front_first fits multiplies text (compile.TooDeep chain) says = absurd says
+front_first fits multiplies text (compile.Full n kind stage) says = absurd says
+front_first fits multiplies text compile.Memory says = tt
+
+pub front_stops : (fits : TreesForm → Bool) (multiplies : Bool) (text : List ℕ) (f : CompileFault) (stop : Stop) → stop ≡ stop_of_compile f → IsFrontFault fits multiplies text f → StopsFront fits multiplies text stop
+front_stops fits multiplies text f stop is says = subst (λ (s : Stop). StopsFront fits multiplies text s) (sym is) (front_first fits multiplies text f says)
 
 -- A stop after some texts.
 

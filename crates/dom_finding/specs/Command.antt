@@ -16,6 +16,13 @@ pub record ConfigNames : Type 0 where
   pub config : List ℕ
   pub trace : List ℕ
 
+-- how packets are ranked and served: the name of the field with the rank, how many packets a queue holds, and in which of so
+-- many cycles it serves one, which is the last of them
+pub record Ranking : Type 0 where
+  pub field : List ℕ
+  pub room : ℕ
+  pub every : ℕ
+
 -- what is asked for
 pub data Command : Type 0 where
   -- the program clocked on a target
@@ -24,12 +31,20 @@ pub data Command : Type 0 where
   serial : FileNames → Command
   -- the configuration of the program in this file for a target
   compile : Target → List ℕ → Command
+  -- the codelets of the program in this file for a target
+  codelets : Target → List ℕ → Command
+  -- its configuration by the plan in another file
+  planned : Target → List ℕ → List ℕ → Command
   -- a configuration clocked
   exec : ConfigNames → Command
   -- and every cycle of it told
   watch : ConfigNames → Command
   -- a configuration clocked under taps before this stage
   probe : ConfigNames → ℕ → Command
+  -- a configuration with queues, over the events in the file of this name
+  elastic : ConfigNames → List ℕ → Command
+  -- a configuration clocked, with a queue behind it that serves the least rank first
+  schedule : ConfigNames → Ranking → Command
   -- the configuration in this file with shared containers
   upgrade : List ℕ → Command
   -- a program of the command's own clocked on a target, over packets that are drawn: from this seed, so many of them
@@ -74,6 +89,16 @@ abbrev pub compile_of : List (List ℕ) → Option Command
 compile_of (name ∷ program ∷ []) = if is_file program then option_map (λ target. compile target program) (target_named name) else None
 compile_of _ = None
 
+abbrev pub codelets_of : List (List ℕ) → Option Command
+codelets_of (name ∷ program ∷ []) = if is_file program then option_map (λ target. codelets target program) (target_named name) else None
+codelets_of _ = None
+
+-- `TARGET PROGRAM PLAN`, where TARGET is the name of a target
+abbrev pub planned_of : List (List ℕ) → Option Command
+planned_of (name ∷ program ∷ plan ∷ []) =
+    if is_file program && is_file plan then option_map (λ target. planned target program plan) (target_named name) else None
+planned_of _ = None
+
 -- `CONFIG TRACE`
 abbrev pub exec_of : List (List ℕ) → Option Command
 exec_of (config ∷ trace ∷ []) = if is_file config && is_file trace then Some (exec (configs_named config trace)) else None
@@ -88,6 +113,23 @@ abbrev pub probe_of : List (List ℕ) → Option Command
 probe_of (config ∷ trace ∷ stage ∷ []) =
     if is_file config && is_file trace then option_map (λ n. probe (configs_named config trace) n) (number_in 1 32 stage) else None
 probe_of _ = None
+
+-- `CONFIG TRACE EVENTS`
+abbrev pub elastic_of : List (List ℕ) → Option Command
+elastic_of (config ∷ trace ∷ events ∷ []) =
+    if is_file config && (is_file trace && is_file events) then Some (elastic (configs_named config trace) events) else None
+elastic_of _ = None
+
+abbrev pub ranking_of : List ℕ → ℕ → ℕ → Ranking
+ranking_of field room every = record { field = field; room = room; every = every }
+
+-- `CONFIG TRACE FIELD ROOM EVERY`, where FIELD is not empty, ROOM a number from 1 to 65536, and EVERY one from 1 to 16
+abbrev pub schedule_of : List (List ℕ) → Option Command
+schedule_of (config ∷ trace ∷ field ∷ room ∷ every ∷ []) =
+    if is_file config && (is_file trace && is_file field)
+    then option_and_then (λ n. option_map (λ k. schedule (configs_named config trace) (ranking_of field n k)) (number_in 1 16 every)) (number_in 1 65536 room)
+    else None
+schedule_of _ = None
 
 -- `CONFIG`
 abbrev pub upgrade_of : List (List ℕ) → Option Command
@@ -109,9 +151,13 @@ command_of (command ∷ words) =
     if is_same command (codes "run") then run_of words
     else (if is_same command (codes "serial") then serial_of words
     else (if is_same command (codes "compile") then compile_of words
+    else (if is_same command (codes "codelets") then codelets_of words
+    else (if is_same command (codes "planned") then planned_of words
     else (if is_same command (codes "exec") then exec_of words
     else (if is_same command (codes "watch") then watch_of words
     else (if is_same command (codes "probe") then probe_of words
+    else (if is_same command (codes "elastic") then elastic_of words
+    else (if is_same command (codes "schedule") then schedule_of words
     else (if is_same command (codes "upgrade") then upgrade_of words
     else (if is_same command (codes "selfrun") then selfrun_of words
-    else None)))))))
+    else None)))))))))))

@@ -3,6 +3,7 @@ pub mod CommandForm
 pub mod Configs
 pub mod Files
 pub mod Finding
+pub mod Listing
 pub mod OwnProgram
 pub mod Refusals
 pub mod Stops

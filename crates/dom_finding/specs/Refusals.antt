@@ -18,6 +18,8 @@ use Rattle.codelets.specs.declared.codelet.Kind.TheVariants.{Stateless, Stateful
 use Rattle.dom_compile.specs.Verdict.{ProgramFault, of_bytes, of_names, of_tokens}
 use Rattle.dom_compile.specs.Answer.{CompileRefusal, full, ill_formed, outside, too_deep, too_many}
 use Rattle.dom_finding.specs.Configs.{ConfigRefusal, bad_line, illegal, unknown_target}
+use Rattle.plan_check.specs.declared.fault.HandFault.{HandFault}
+use Rattle.plan_check.specs.declared.fault.HandFault.TheVariants as hand
 use Rattle.dom_finding.specs.declared.refusals.Refusal.{Refusal}
 use Rattle.dom_finding.specs.declared.refusals.Refusal.TheVariants as refusal
 
@@ -62,6 +64,10 @@ kind_text Stateful = codes "stateful"
 abbrev pub full_line : ℕ → Kind → ℕ → List ℕ
 full_line codelet kind stage = line_of (codes "refused,full" ∷ count_text codelet ∷ kind_text kind ∷ count_text stage ∷ [])
 
+-- a stage of a plan, and the kind of which it has too many atoms
+abbrev pub wide_line : ℕ → Kind → List ℕ
+wide_line stage kind = line_of (codes "refused,plan,wide" ∷ count_text stage ∷ kind_text kind ∷ [])
+
 -- the rule of a configuration that is broken
 abbrev pub rule_text : ConfigKind → List ℕ
 rule_text rule.Depth = codes "refused,config,depth"
@@ -105,8 +111,15 @@ refusal_line (refusal.ConfigLine n) = placed (codes "refused,config,line") (n �
 refusal_line refusal.UnknownTarget = placed (codes "refused,config,unknown-target") []
 refusal_line (refusal.Config kind stage atom) = rule_line kind stage atom
 refusal_line (refusal.Stage depth) = placed (codes "refused,stage") (depth ∷ [])
+refusal_line refusal.Rank = placed (codes "refused,rank") []
 refusal_line refusal.TraceLimit = placed (codes "refused,limit,trace") []
 refusal_line (refusal.Trace fault) = trace_line fault
+refusal_line refusal.EventsLimit = placed (codes "refused,limit,events") []
+refusal_line (refusal.Events n) = placed (codes "refused,events") (n ∷ [])
+refusal_line refusal.PlanLimit = placed (codes "refused,limit,plan") []
+refusal_line (refusal.PlanLine n) = placed (codes "refused,plan,line") (n ∷ [])
+refusal_line (refusal.PlanEarly codelet used) = placed (codes "refused,plan,early") (codelet ∷ used ∷ [])
+refusal_line (refusal.PlanWide stage kind) = wide_line stage kind
 
 -- the program is refused with 1, and what else a command is given with 3
 abbrev pub refusal_status : Refusal → ℕ
@@ -123,8 +136,15 @@ refusal_status (refusal.ConfigLine n) = 3
 refusal_status refusal.UnknownTarget = 3
 refusal_status (refusal.Config kind stage atom) = 3
 refusal_status (refusal.Stage depth) = 3
+refusal_status refusal.Rank = 3
 refusal_status refusal.TraceLimit = 3
 refusal_status (refusal.Trace fault) = 3
+refusal_status refusal.EventsLimit = 3
+refusal_status (refusal.Events n) = 3
+refusal_status refusal.PlanLimit = 3
+refusal_status (refusal.PlanLine n) = 3
+refusal_status (refusal.PlanEarly codelet used) = 3
+refusal_status (refusal.PlanWide stage kind) = 3
 
 -- The refusal of what a text is not.
 
@@ -157,3 +177,13 @@ abbrev pub refused_config : ConfigRefusal → Refusal
 refused_config (bad_line n) = refusal.ConfigLine n
 refused_config unknown_target = refusal.UnknownTarget
 refused_config (illegal v) = refusal.Config v.kind v.stage v.atom
+
+abbrev pub refused_events : ℕ → Refusal
+refused_events n = refusal.Events n
+
+abbrev pub refused_plan : ℕ → Refusal
+refused_plan n = refusal.PlanLine n
+
+abbrev pub refused_hand : HandFault → Refusal
+refused_hand (hand.Early codelet used) = refusal.PlanEarly codelet used
+refused_hand (hand.Wide stage kind) = refusal.PlanWide stage kind

@@ -2,6 +2,8 @@
 use Rattle.std.specs.Prelude.{◌≡◌, ⊤, ℕ, ◌<◌, ◌≤◌, ◌⊎◌, Option, List, length, Result, Err}
 use Rattle.dom_io.specs.Causes.{Rose}
 use Rattle.trace_text.specs.Trace.{IsTraceOf}
+use Rattle.trace_text.specs.declared.events.EventsFault.{EventsFault}
+use Rattle.trace_text.specs.declared.events.EventsFault.TheVariants as events
 use Rattle.trace_text.specs.declared.trace.TraceFault.{TraceFault}
 use Rattle.trace_text.specs.declared.trace.TraceFault.TheVariants as fault
 use Rattle.dom_lexer.specs.declared.token.LexFault.{LexFault}
@@ -14,6 +16,8 @@ use Rattle.banzai_config.specs.declared.fault.ConfigFault.{ConfigFault}
 use Rattle.banzai_config.specs.declared.fault.ConfigFault.TheVariants as illegal
 use Rattle.config_text.specs.declared.fault.ReadFault.{ReadFault}
 use Rattle.config_text.specs.declared.fault.ReadFault.TheVariants as read
+use Rattle.plan_check.specs.declared.fault.PlanTextFault.{PlanTextFault}
+use Rattle.plan_check.specs.declared.fault.PlanTextFault.TheVariants as plan
 use Rattle.dom_compile.specs.declared.faults.CompileFault.{CompileFault}
 use Rattle.dom_compile.specs.declared.faults.CompileFault.TheVariants as compile
 use Rattle.dom_finding.specs.Command.{Command}
@@ -70,6 +74,16 @@ trace_stop (fault.RowLength r) = Refused (refusal.Trace (fault.RowLength r))
 trace_stop (fault.BadValue r c) = Refused (refusal.Trace (fault.BadValue r c))
 trace_stop (fault.TooManyCycles cycles) = Refused (refusal.Trace (fault.TooManyCycles cycles))
 trace_stop fault.Memory = Memory
+
+-- a fault of events refuses them, and want of memory stops
+abbrev pub events_stop : EventsFault → Stop
+events_stop (events.Line n) = Refused (refusal.Events n)
+events_stop events.Memory = Memory
+
+-- a fault of a plan's text refuses it, and want of memory stops
+abbrev pub plan_stop : PlanTextFault → Stop
+plan_stop (plan.Line n) = Refused (refusal.PlanLine n)
+plan_stop plan.Memory = Memory
 
 -- a fault of a program refuses it, and want of memory stops
 abbrev pub stop_of_lex : LexFault → Stop

@@ -1,13 +1,18 @@
 ghost use Rattle.std.specs.Prelude.{◌≡◌, ◌≤◌, IfSome, option_map};
-ghost use Rattle.dom_finding.specs.Command.{command_of, compile_of, exec_of, number_in as number_within, probe_of, run_of, selfrun_of, serial_of, texts_of, upgrade_of, watch_of};
+ghost use Rattle.dom_finding.specs.Command.{codelets_of, command_of, compile_of, elastic_of, exec_of, number_in as number_within, planned_of, probe_of, run_of, schedule_of, selfrun_of, serial_of, texts_of, upgrade_of, watch_of};
 ghost use Rattle.dom_finding.specs.CommandForm.{command_in};
 
+use crate::ranking::Ranking;
 use crate::stage::Stage;
 use banzai_config::Target;
 use dom_words::read_count;
 use itoa::Buffer;
 
 const MOST_STAGE: u32 = 32;
+
+const MOST_ROOM: u32 = 65_536;
+
+const MOST_EVERY: u32 = 16;
 
 const MOST_SEED: u32 = 4_294_967_295;
 
@@ -47,6 +52,20 @@ pub enum Command<'a> {
         /// The name of the program's file.
         program: &'a str,
     },
+    /// The codelets of a program for a target.
+    Codelets {
+        target: Target,
+        /// The name of the program's file.
+        program: &'a str,
+    },
+    /// The configuration of a program for a target by a plan.
+    Planned {
+        target: Target,
+        /// The name of the program's file.
+        program: &'a str,
+        /// The name of the plan's file.
+        plan: &'a str,
+    },
     /// A configuration clocked.
     Exec(ConfigFiles<'a>),
     /// A configuration clocked, and every cycle of it told.
@@ -56,6 +75,17 @@ pub enum Command<'a> {
         files: ConfigFiles<'a>,
         /// The stage before which they are attached.
         stage: Stage,
+    },
+    /// A configuration with queues in place of registers, over events.
+    Elastic {
+        files: ConfigFiles<'a>,
+        /// The name of the events' file.
+        events: &'a str,
+    },
+    /// A configuration clocked, with a queue behind it that serves the least rank first.
+    Schedule {
+        files: ConfigFiles<'a>,
+        ranking: Ranking<'a>,
     },
     /// A configuration with shared containers, by the name of its file.
     Upgrade(&'a str),
@@ -77,9 +107,13 @@ pub fn read_words(words: &[String]) -> Option<Command<'_>>
         [command, rest @ ..] if command.as_str() == "run" => run_in(rest),
         [command, rest @ ..] if command.as_str() == "serial" => serial_in(rest),
         [command, rest @ ..] if command.as_str() == "compile" => compile_in(rest),
+        [command, rest @ ..] if command.as_str() == "codelets" => codelets_in(rest),
+        [command, rest @ ..] if command.as_str() == "planned" => planned_in(rest),
         [command, rest @ ..] if command.as_str() == "exec" => exec_in(rest),
         [command, rest @ ..] if command.as_str() == "watch" => watch_in(rest),
         [command, rest @ ..] if command.as_str() == "probe" => probe_in(rest),
+        [command, rest @ ..] if command.as_str() == "elastic" => elastic_in(rest),
+        [command, rest @ ..] if command.as_str() == "schedule" => schedule_in(rest),
         [command, rest @ ..] if command.as_str() == "upgrade" => upgrade_in(rest),
         [command, rest @ ..] if command.as_str() == "selfrun" => selfrun_in(rest),
         _ => None,
@@ -131,6 +165,37 @@ fn compile_in(words: &[String]) -> Option<Command<'_>>
     }
 }
 
+fn codelets_in(words: &[String]) -> Option<Command<'_>>
+    ensures { option_map command_in result ≡ codelets_of (texts_of words.entry.now) }
+{
+    match words {
+        [name, program] if !program.is_empty() => {
+            let target = Target::named(name.as_str())?;
+            Some(Command::Codelets {
+                target,
+                program: program.as_str(),
+            })
+        }
+        _ => None,
+    }
+}
+
+fn planned_in(words: &[String]) -> Option<Command<'_>>
+    ensures { option_map command_in result ≡ planned_of (texts_of words.entry.now) }
+{
+    match words {
+        [name, program, plan] if !program.is_empty() && !plan.is_empty() => {
+            let target = Target::named(name.as_str())?;
+            Some(Command::Planned {
+                target,
+                program: program.as_str(),
+                plan: plan.as_str(),
+            })
+        }
+        _ => None,
+    }
+}
+
 fn exec_in(words: &[String]) -> Option<Command<'_>>
     ensures { option_map command_in result ≡ exec_of (texts_of words.entry.now) }
 {
@@ -171,6 +236,43 @@ fn probe_in(words: &[String]) -> Option<Command<'_>>
             };
             let stage = Stage { number };
             Some(Command::Probe { files, stage })
+        }
+        _ => None,
+    }
+}
+
+fn elastic_in(words: &[String]) -> Option<Command<'_>>
+    ensures { option_map command_in result ≡ elastic_of (texts_of words.entry.now) }
+{
+    match words {
+        [config, trace, events] if !config.is_empty() && !trace.is_empty() && !events.is_empty() =>
+            {
+                let files = ConfigFiles {
+                    config: config.as_str(),
+                    trace: trace.as_str(),
+                };
+                let events = events.as_str();
+                Some(Command::Elastic { files, events })
+            }
+        _ => None,
+    }
+}
+
+fn schedule_in(words: &[String]) -> Option<Command<'_>>
+    ensures { option_map command_in result ≡ schedule_of (texts_of words.entry.now) }
+{
+    match words {
+        [config, trace, field, room, every]
+            if !config.is_empty() && !trace.is_empty() && !field.is_empty() => {
+            let room = number_in(room.as_str(), 1, MOST_ROOM)?;
+            let every = number_in(every.as_str(), 1, MOST_EVERY)?;
+            let files = ConfigFiles {
+                config: config.as_str(),
+                trace: trace.as_str(),
+            };
+            let field = field.as_str();
+            let ranking = Ranking { field, room, every };
+            Some(Command::Schedule { files, ranking })
         }
         _ => None,
     }

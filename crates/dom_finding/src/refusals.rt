@@ -1,6 +1,6 @@
 ghost use Rattle.std.specs.Prelude.{◌≡◌, ◌<◌, ◌++◌, ◌∷◌, [], IfOk, OnOk, codes, length, map};
 ghost use Rattle.trace_text.specs.Lines.{after_commas, count_text};
-ghost use Rattle.dom_finding.specs.Refusals.{check_line as line_of_check, full_line as line_of_full, kind_text, lex_line as line_of_lex, parse_line as line_of_parse, placed, rule_line as line_of_rule, rule_text, refusal_line, refusal_status, trace_line as line_of_trace};
+ghost use Rattle.dom_finding.specs.Refusals.{check_line as line_of_check, full_line as line_of_full, kind_text, lex_line as line_of_lex, parse_line as line_of_parse, placed, rule_line as line_of_rule, rule_text, refusal_line, refusal_status, trace_line as line_of_trace, wide_line as line_of_wide};
 
 use banzai_config::ConfigKind;
 use codelets::Kind;
@@ -54,10 +54,30 @@ pub enum Refusal {
     },
     /// The configuration has only so many stages.
     Stage(u32),
+    /// The configuration has no field with the name of the rank.
+    Rank,
     /// The trace is too long.
     TraceLimit,
     /// The trace's text is no trace.
     Trace(TraceFault),
+    /// The text of events is too long.
+    EventsLimit,
+    /// The first line of events that is none, from 1.
+    Events(u32),
+    /// The text of a plan is too long.
+    PlanLimit,
+    /// The first line of a plan that is not right, from 1.
+    PlanLine(u32),
+    /// A codelet of a plan is not at a later stage than one that it uses: the least numbers of their statements.
+    PlanEarly {
+        codelet: u32,
+        used: u32,
+    },
+    /// A stage of a plan has more atoms of a kind than its width.
+    PlanWide {
+        stage: u32,
+        kind: Kind,
+    },
 }
 
 impl Refusal {
@@ -79,8 +99,15 @@ impl Refusal {
             | Refusal::UnknownTarget
             | Refusal::Config { .. }
             | Refusal::Stage(_)
+            | Refusal::Rank
             | Refusal::TraceLimit
-            | Refusal::Trace(_) => INPUT_REFUSED,
+            | Refusal::Trace(_)
+            | Refusal::EventsLimit
+            | Refusal::Events(_)
+            | Refusal::PlanLimit
+            | Refusal::PlanLine(_)
+            | Refusal::PlanEarly { .. }
+            | Refusal::PlanWide { .. } => INPUT_REFUSED,
         }
     }
 
@@ -113,8 +140,19 @@ impl Refusal {
             Refusal::UnknownTarget => placed_line(alloc, "refused,config,unknown-target", &[]),
             Refusal::Config { kind, stage, atom } => rule_line(alloc, *kind, *stage, *atom),
             Refusal::Stage(depth) => placed_line(alloc, "refused,stage", &[u64::from(*depth)]),
+            Refusal::Rank => placed_line(alloc, "refused,rank", &[]),
             Refusal::TraceLimit => placed_line(alloc, "refused,limit,trace", &[]),
             Refusal::Trace(fault) => trace_line(alloc, *fault),
+            Refusal::EventsLimit => placed_line(alloc, "refused,limit,events", &[]),
+            Refusal::Events(n) => placed_line(alloc, "refused,events", &[u64::from(*n)]),
+            Refusal::PlanLimit => placed_line(alloc, "refused,limit,plan", &[]),
+            Refusal::PlanLine(n) => placed_line(alloc, "refused,plan,line", &[u64::from(*n)]),
+            Refusal::PlanEarly { codelet, used } => placed_line(
+                alloc,
+                "refused,plan,early",
+                &[u64::from(*codelet), u64::from(*used)],
+            ),
+            Refusal::PlanWide { stage, kind } => wide_line(alloc, *stage, *kind),
         }
     }
 }
@@ -203,7 +241,20 @@ fn full_line(alloc: Global, codelet: u32, kind: Kind, stage: u32) -> Result<Vec<
     Ok(line)
 }
 
-fn kind_word(kind: Kind) -> &'static str
+// The line of a stage of a plan that has too many atoms of a kind.
+fn wide_line(alloc: Global, stage: u32, kind: Kind) -> Result<Vec<u8>, Memory>
+    ensures line { IfOk result (λ line. line.items ≡ line_of_wide stage kind) }
+    ensures some { IfOk result (λ line. 0 < length line.items) }
+{
+    let mut line = Vec::from_slice(alloc, b"refused,plan,wide").map_err(|_| Memory)?;
+    push_number(&mut line, u64::from(stage))?;
+    push_word(&mut line, kind_word(kind))?;
+    line.push(b'\n').map_err(|_| Memory)?;
+    Ok(line)
+}
+
+/// The word of a kind.
+pub(crate) fn kind_word(kind: Kind) -> &'static str
     ensures { result.now ≡ kind_text kind }
 {
     match kind {
@@ -278,8 +329,8 @@ fn placed_line(alloc: Global, words: &str, numbers: &[u64]) -> Result<Vec<u8>, M
     Ok(line)
 }
 
-// A comma and a number at the end of a line.
-fn push_number(line: &mut Vec<u8>, number: u64) -> Result<(), Memory>
+/// A comma and a number at the end of a line.
+pub(crate) fn push_number(line: &mut Vec<u8>, number: u64) -> Result<(), Memory>
     ensures { OnOk result (line.new.items ≡ line.old.items ++ 44 ∷ count_text number) }
 {
     line.push(b',').map_err(|_| Memory)?;
@@ -288,8 +339,8 @@ fn push_number(line: &mut Vec<u8>, number: u64) -> Result<(), Memory>
         .map_err(|_| Memory)
 }
 
-// A comma and a word at the end of a line.
-fn push_word(line: &mut Vec<u8>, word: &str) -> Result<(), Memory>
+/// A comma and a word at the end of a line.
+pub(crate) fn push_word(line: &mut Vec<u8>, word: &str) -> Result<(), Memory>
     ensures { OnOk result (line.new.items ≡ line.old.items ++ 44 ∷ word.now) }
 {
     line.push(b',').map_err(|_| Memory)?;

@@ -4,6 +4,8 @@ mod ends;
 mod failing;
 mod hostile;
 mod lines;
+mod plans;
+mod queues;
 mod shared;
 mod taps;
 mod traces;
@@ -32,6 +34,16 @@ const SHARED: &str =
     "banzai,2\ntarget,raw-small\nfield,x\nfield,sum\narray,total,1,0\ncontainers,2\nstage,1\natom,1\nslot,0,#0,-,c1,add,c0\nstage,2\nstage,3\nstage,4\nout,c0\nout,c1\nend\n";
 
 const TRACE: &str = "gap,x\n0,5\n2,7\n";
+
+// Two packets enter queues, and one of them goes through all stages.
+const EVENTS: &str = "enter\nenter\nfire,2\nfire,1\nfire,1\nfire,2\nfire,3\nfire,4\nleave\n";
+
+// A program whose last codelet finds no place in four stages, though there are plans for it.
+const LATE: &str =
+    "struct P { int x; int y; }; int a; int b; void f(struct P pkt) { a = a + 1; b = b + pkt.x; pkt.y = b ^ 1 ^ 2 ^ 3; }";
+
+// A plan for it.
+const PLAN: &str = "codelet,0,2\ncodelet,2,1\ncodelet,4,2\ncodelet,5,3\ncodelet,6,4\n";
 
 // A call's status, and what its sink holds then.
 #[derive(Drop)]
@@ -235,7 +247,7 @@ fn refused_traces(rt: HostRuntime) -> Result<(), Fail> {
     Ok(())
 }
 
-const REFUSED_WORDS: [&str; 31] = [
+const REFUSED_WORDS: [&str; 48] = [
     "",
     "run",
     "run raw-tiny p t",
@@ -267,6 +279,23 @@ const REFUSED_WORDS: [&str; 31] = [
     "probe c t -2",
     "probe c t two",
     "probe c t 2 2",
+    "codelets raw-small",
+    "codelets raw-tiny p",
+    "codelets raw-small p t",
+    "planned raw-small p",
+    "planned raw-tiny p t",
+    "planned raw-small p t c",
+    "elastic c t",
+    "elastic c t p t",
+    "schedule c t x 8",
+    "schedule c t x 8 4 4",
+    "schedule c t x 0 4",
+    "schedule c t x 65537 4",
+    "schedule c t x 08 4",
+    "schedule c t x 8 0",
+    "schedule c t x 8 17",
+    "schedule c t x 8 04",
+    "schedule c t x 8 +4",
 ];
 
 fn refuses_words(rt: &impl Abort, alloc: Global, lines: &[&str]) -> Result<(), Fail> {
@@ -288,7 +317,7 @@ fn refused_words(rt: HostRuntime) -> Result<(), Fail> {
     refuses_words(&rt, rt.alloc(), &REFUSED_WORDS)
 }
 
-const READS: [(&str, &str, &str, u64, u8); 22] = [
+const READS: [(&str, &str, &str, u64, u8); 35] = [
     ("run raw-small p t", PROGRAM, TRACE, 2, 0),
     ("serial p t", PROGRAM, TRACE, 2, 0),
     ("run raw-small p t", PROGRAM, "no trace", 2, 3),
@@ -311,6 +340,19 @@ const READS: [(&str, &str, &str, u64, u8); 22] = [
     ("upgrade c", PROGRAM, TRACE, 1, 0),
     ("upgrade p", PROGRAM, TRACE, 1, 3),
     ("selfrun raw-small 7 1", PROGRAM, TRACE, 0, 0),
+    ("codelets raw-small p", PROGRAM, TRACE, 1, 0),
+    ("codelets raw-small p", "no program", TRACE, 1, 1),
+    ("planned raw-small p t", LATE, PLAN, 2, 0),
+    ("planned raw-small p t", LATE, "no plan", 2, 3),
+    ("planned raw-small p t", "no program", PLAN, 1, 1),
+    ("elastic c p t", TRACE, EVENTS, 3, 0),
+    ("elastic c p t", TRACE, "no event", 3, 3),
+    ("elastic c p t", "no trace", EVENTS, 2, 3),
+    ("elastic p c t", TRACE, EVENTS, 1, 3),
+    ("schedule c t x 8 4", PROGRAM, TRACE, 2, 0),
+    ("schedule c t x 8 4", PROGRAM, "no trace", 2, 3),
+    ("schedule c t y 8 4", PROGRAM, TRACE, 1, 3),
+    ("schedule p t x 8 4", PROGRAM, TRACE, 1, 3),
 ];
 
 // A row has the number of reads that can succeed: none after them can.
@@ -337,7 +379,7 @@ fn reads(rt: HostRuntime) -> Result<(), Fail> {
     reads_so_many(&rt, rt.alloc(), &READS)
 }
 
-const WHOLE_REPORTS: [(&str, &str); 7] = [
+const WHOLE_REPORTS: [(&str, &str); 9] = [
     (
         "run raw-small p t",
         "cycle,x,sum\n4,5,5\n7,7,12\nstate,total,0,12\nplace,total,1\ndone,2,8\n",
@@ -359,6 +401,11 @@ const WHOLE_REPORTS: [(&str, &str); 7] = [
         "cycle,x,sum\n4,5,5\n7,7,12\nstate,total,0,12\nplace,total,1\ntap,1,2\ndone,2,8\n",
     ),
     ("compile raw-small p", SHARED),
+    ("codelets raw-small p", "codelet,0,1,stateful\n"),
+    (
+        "schedule c t x 8 4",
+        "cycle,x,sum\n7,5,5\n11,7,12\nstate,total,0,12\ndone,2,12\n",
+    ),
     (
         "selfrun raw-small 7 1",
         "selfrun,raw-small,7,1\npackets,1\ncycles,5\nfold,1340218\ntotal,40140\n",

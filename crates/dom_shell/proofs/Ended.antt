@@ -35,8 +35,15 @@ status_small (refusal.ConfigLine n) = omega arith
 status_small refusal.UnknownTarget = omega arith
 status_small (refusal.Config kind stage atom) = omega arith
 status_small (refusal.Stage depth) = omega arith
+status_small refusal.Rank = omega arith
 status_small refusal.TraceLimit = omega arith
 status_small (refusal.Trace f) = omega arith
+status_small refusal.EventsLimit = omega arith
+status_small (refusal.Events n) = omega arith
+status_small refusal.PlanLimit = omega arith
+status_small (refusal.PlanLine n) = omega arith
+status_small (refusal.PlanEarly codelet used) = omega arith
+status_small (refusal.PlanWide stage kind) = omega arith
 
 status_not_two : (r : Refusal) → refusal_status r ≡ 2 → ⊥
 status_not_two refusal.ProgramLimit e = omega arith
@@ -52,8 +59,15 @@ status_not_two (refusal.ConfigLine n) e = omega arith
 status_not_two refusal.UnknownTarget e = omega arith
 status_not_two (refusal.Config kind stage atom) e = omega arith
 status_not_two (refusal.Stage depth) e = omega arith
+status_not_two refusal.Rank e = omega arith
 status_not_two refusal.TraceLimit e = omega arith
 status_not_two (refusal.Trace f) e = omega arith
+status_not_two refusal.EventsLimit e = omega arith
+status_not_two (refusal.Events n) e = omega arith
+status_not_two refusal.PlanLimit e = omega arith
+status_not_two (refusal.PlanLine n) e = omega arith
+status_not_two (refusal.PlanEarly codelet used) e = omega arith
+status_not_two (refusal.PlanWide stage kind) e = omega arith
 
 few : (found : Finding) → status_of found ≤ 3
 few (Ok job) = omega arith

@@ -168,6 +168,13 @@ refused_some (refusal.Config kind stage atom) e = absurd (omega arith)
 refused_some (refusal.Stage depth) e = absurd (omega arith)
 refused_some refusal.TraceLimit e = absurd (omega arith)
 refused_some (refusal.Trace fault) e = absurd (omega arith)
+refused_some refusal.Rank e = absurd (omega arith)
+refused_some refusal.EventsLimit e = absurd (omega arith)
+refused_some (refusal.Events line) e = absurd (omega arith)
+refused_some refusal.PlanLimit e = absurd (omega arith)
+refused_some (refusal.PlanLine line) e = absurd (omega arith)
+refused_some (refusal.PlanEarly codelet used) e = absurd (omega arith)
+refused_some (refusal.PlanWide stage kind) e = absurd (omega arith)
 
 -- what `compile` has found, where it has status 0: the program's text, its parts, and their text
 record Put (hash : Hash) (taps : List TapForm) (files : List ℕ → Option (List ℕ)) (t : Target) (program bytes : List ℕ) : Type 0 where

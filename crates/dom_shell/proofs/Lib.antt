@@ -6,7 +6,10 @@ pub mod Ended
 pub mod ExecRuns
 pub mod Headline
 pub mod Over
+pub mod Plans
 pub mod Probed
+pub mod Queues
+pub mod Ranks
 pub mod SharedRuns
 pub mod SharedSmall
 pub mod SmallNumbers

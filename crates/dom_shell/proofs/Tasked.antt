@@ -26,24 +26,33 @@ read_task target text t u same is = subst (λ (z : Task). IsReadFor target z tex
 pub read_program : (target : Target) (text : List ℕ) (t : Task) → IsOnProgram t → length text ≤ most_program → IsReadFor target t text
 read_program target text task.Compile on few = few
 read_program target text (task.Run trace) on few = few
+read_program target text task.Codelets on few = few
+read_program target text (task.Planned plan) on few = few
 read_program target text (task.SelfRun seed count) on few = absurd on
 read_program target text (task.Upgrade parts) on few = absurd on
+read_program target text (task.Elastic parts trace events) on few = absurd on
 read_program target text (task.Config what parts trace) on few = absurd on
 
 -- the program is wanted first
 program_first : (target : Target) (name : List ℕ) (t : Task) → IsOnProgram t → IsNext (command_for target name t) [] (ask (program_file name))
 program_first target name task.Compile on = refl
 program_first target name (task.Run trace) on = refl
+program_first target name task.Codelets on = refl
+program_first target name (task.Planned plan) on = refl
 program_first target name (task.SelfRun seed count) on = absurd on
 program_first target name (task.Upgrade parts) on = absurd on
+program_first target name (task.Elastic parts trace events) on = absurd on
 program_first target name (task.Config what parts trace) on = absurd on
 
 -- and is the one text that is read for it
 program_alone : (t : Task) (text : List ℕ) → IsOnProgram t → texts_for t text ≡ text ∷ []
 program_alone task.Compile text on = refl
 program_alone (task.Run trace) text on = refl
+program_alone task.Codelets text on = refl
+program_alone (task.Planned plan) text on = refl
 program_alone (task.SelfRun seed count) text on = absurd on
 program_alone (task.Upgrade parts) text on = absurd on
+program_alone (task.Elastic parts trace events) text on = absurd on
 program_alone (task.Config what parts trace) text on = absurd on
 
 module _ (target : Target) (name : List ℕ) (t : Task) (on : IsOnProgram t) (hash : Hash) (taps : List TapForm) (files : List ℕ → Option (List ℕ)) where

@@ -64,6 +64,10 @@ pub ok_of_both : {T E : Type 0} (P Q R : T → Type 0) (result : Result T E) →
 ok_of_both P Q R (Ok x) f p q = f x p q
 ok_of_both P Q R (Err e) f p q = tt
 
+pub ok_of_three : {T E : Type 0} (P Q R U : T → Type 0) (result : Result T E) → ((x : T) → P x → Q x → R x → U x) → IfOk result P → IfOk result Q → IfOk result R → IfOk result U
+ok_of_three P Q R U (Ok x) f p q r = f x p q r
+ok_of_three P Q R U (Err e) f p q r = tt
+
 pub ok_of : {T E : Type 0} (P Q : T → Type 0) (result : Result T E) → ((x : T) → P x → Q x) → IfOk result P → IfOk result Q
 ok_of P Q (Ok x) f p = f x p
 ok_of P Q (Err e) f p = tt

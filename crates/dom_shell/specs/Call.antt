@@ -1,23 +1,36 @@
 -- What a call answers: its status, and the bytes that it puts. `taps` are those that are handed in.
-use Rattle.std.specs.Prelude.{◌≡◌, ℕ, ◌⊎◌, Option, Some, None, List, [], map, Ok, Err}
+use Rattle.std.specs.Prelude.{◌≡◌, ℕ, ◌⊎◌, Option, Some, None, unwrap_or, List, [], map, Ok, Err}
+use Rattle.dom_words.specs.Names.{index_of}
 use Rattle.dom_io.specs.Held.{IsPart, appended}
 use Rattle.trace_text.specs.Trace.{entries}
 use Rattle.dom_words.specs.State.{Hash}
 use Rattle.probe_taps.specs.Taps.{TapForm}
 use Rattle.dom_finding.specs.Command.{Command, command_of}
-use Rattle.dom_finding.specs.Finding.{Finding, IsFoundAfter, IsTold, IsUnreadAfter, Job, MayHold, clocked, drawn, in_turn, tapped, watched, written}
+use Rattle.dom_finding.specs.Finding.{Finding, IsFoundAfter, IsTold, IsUnreadAfter, Job, MayHold, clocked, drawn, in_turn, queued, ranked, tapped, watched, written}
 use Rattle.dom_finding.specs.Refusals.{refusal_line, refusal_status, words_line}
+use Rattle.dom_report.specs.ElasticReport.{elastic_report}
 use Rattle.dom_report.specs.ProbeReport.{attached_at, probe_report}
+use Rattle.dom_report.specs.RankedReport.{ranked_report}
 use Rattle.dom_report.specs.RunReport.{run_report}
 use Rattle.dom_report.specs.SelfRun.{selfrun_report}
 use Rattle.dom_report.specs.SerialReport.{serial_report}
 use Rattle.dom_report.specs.WatchReport.{watch_report}
+
+-- how many packets a queue of `elastic` holds
+abbrev pub queue_room : ℕ
+queue_room = 4
+
+-- the position of a field
+abbrev pub field_at : List (List ℕ) → List ℕ → ℕ
+field_at fields name = unwrap_or (index_of fields name) 0
 
 -- what is put of a job
 abbrev pub report_of : Hash → List TapForm → Job → List ℕ
 report_of hash taps (clocked parts packets) = run_report hash parts (entries packets)
 report_of hash taps (watched parts packets) = watch_report hash parts (entries packets)
 report_of hash taps (tapped stage parts packets) = probe_report hash (attached_at stage taps) parts (entries packets)
+report_of hash taps (ranked ranking parts packets) = ranked_report hash parts (field_at parts.fields ranking.field) ranking.room ranking.every (entries packets)
+report_of hash taps (queued parts packets events) = elastic_report hash queue_room parts (map (λ p. p.1) packets) events
 report_of hash taps (drawn target seed count parts) = selfrun_report hash target seed count parts
 report_of hash taps (in_turn c packets) = serial_report hash c (map (λ p. p.1) packets)
 report_of hash taps (written text) = text

@@ -1,6 +1,10 @@
 pub mod Call
 pub mod Ends
 pub mod ExecIsRun
+pub mod Planned
+pub mod PlannedRuns
+pub mod QueuesAreSerial
+pub mod QueuesSetUp
 pub mod RunIsSerial
 pub mod RunSetUp
 pub mod SerialSetUp

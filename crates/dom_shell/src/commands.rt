@@ -1,10 +1,13 @@
 mod clock;
 mod compile;
 mod config;
+mod elastic;
 mod over;
+mod plans;
 mod probe;
 mod program;
 mod run;
+mod schedule;
 mod selfrun;
 mod serial;
 mod targets;
@@ -17,6 +20,7 @@ ghost use Rattle.dom_finding.specs.CommandForm.{command_in};
 ghost use Rattle.dom_shell.specs.Ends.{IsEndAfter, call_of, sent_as};
 
 use crate::commands::config::with_config;
+use crate::commands::elastic::elastic;
 use crate::commands::program::with_program;
 use crate::commands::serial::serial;
 use crate::commands::targets::on_target;
@@ -58,6 +62,18 @@ pub(crate) fn perform<F: Shelf, S: Sink, H: HashUnits>(
                 taps,
             )
         }
+        Command::Codelets { target, program } => {
+            let task = Task::Codelets;
+            with_program(alloc, target, task, program, shelf, sink, hash, taps)
+        }
+        Command::Planned {
+            target,
+            program,
+            plan,
+        } => {
+            let task = Task::Planned(plan);
+            with_program(alloc, target, task, program, shelf, sink, hash, taps)
+        }
         Command::SelfRun {
             target,
             seed,
@@ -76,6 +92,13 @@ pub(crate) fn perform<F: Shelf, S: Sink, H: HashUnits>(
         Command::Probe { files, stage } => {
             let what = ConfigTask::Probe(stage);
             with_config(alloc, what, files, shelf, sink, hash, taps)
+        }
+        Command::Schedule { files, ranking } => {
+            let what = ConfigTask::Schedule(ranking);
+            with_config(alloc, what, files, shelf, sink, hash, taps)
+        }
+        Command::Elastic { files, events } => {
+            elastic(alloc, files, events, shelf, sink, hash, taps)
         }
         Command::Upgrade(config) => upgrade(alloc, config, shelf, sink, hash, taps),
     }

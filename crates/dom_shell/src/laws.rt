@@ -22,7 +22,10 @@ ghost use Rattle.trace_text.specs.Trace.{entries};
 ghost use Rattle.dom_shell.specs.Call.{IsResult, IsUnread};
 ghost use Rattle.dom_shell.specs.ExecIsRun.{HoldsCompiled, exec_words, run_words};
 ghost use Rattle.container_plan.specs.Shared.{shared};
+ghost use Rattle.dom_shell.specs.PlannedRuns.{IsPlanned};
+ghost use Rattle.dom_shell.specs.QueuesAreSerial.{IsSerialBehind, IsSerialInQueues};
 ghost use Rattle.dom_shell.specs.RunIsSerial.{IsSerialMoment, IsSerialRun};
+ghost use Rattle.trace_text.specs.declared.events.Event.{Event};
 ghost use Rattle.dom_shell.specs.SharedRuns.{AreWhole, RunsAlike};
 
 /// Words, told files and taps have one status and one text.
@@ -51,6 +54,31 @@ pub fn run_is_serial()
 /// packets that have passed the stage, one after another.
 pub fn each_moment_is_serial()
     ensures { (s : Shape) (text : List ℕ) (program : CheckedForm) (parts : PartsForm) → IsWellFormed text program → IsCompileAnswer s text (Ok parts) → (hash : Hash) (entries : List Entry) → IsSmallHash hash → AreFull program (packets_of entries) → IsSerialMoment hash program parts entries }
+{}
+
+/// What `elastic` puts of a compiled configuration is the program run serially, whatever the events: the packets of its lines are
+/// the first of what the program makes of those that came in, when it runs on one after another; where no packet is held, they
+/// are all, and the arrays are as the program leaves them.
+pub fn queues_are_serial()
+    ensures { (s : Shape) (text : List ℕ) (program : CheckedForm) (parts : PartsForm) → IsWellFormed text program → IsCompileAnswer s text (Ok parts) → (hash : Hash) (most : ℕ) (packets : List (List ℕ)) (events : List Event) → IsSmallHash hash → AreFull program packets → IsSerialInQueues hash most program parts packets events }
+{}
+
+/// What `schedule` ranks of a compiled configuration are the packets of the program run serially, each as many cycles after it
+/// entered as there are stages, however many idle cycles follow the drain.
+pub fn ranked_is_serial()
+    ensures { (s : Shape) (text : List ℕ) (program : CheckedForm) (parts : PartsForm) → IsWellFormed text program → IsCompileAnswer s text (Ok parts) → (hash : Hash) (entries : List Entry) (more : ℕ) → IsSmallHash hash → AreFull program (packets_of entries) → IsSerialBehind hash program parts entries more }
+{}
+
+/// A configuration by a plan is the program run serially, as one that `compile` puts is: over any list of packets and idle cycles
+/// and the drain (`run`), and at every moment (`moment`).
+pub fn planned_is_serial()
+    ensures run { (s : Shape) (text : List ℕ) (program : CheckedForm) (parts : PartsForm) → IsWellFormed text program → IsPlanned s text parts → (hash : Hash) (cycles : List Entry) → IsSmallHash hash → AreFull program (packets_of cycles) → IsSerialRun hash program parts cycles }
+    ensures moment { (s : Shape) (text : List ℕ) (program : CheckedForm) (parts : PartsForm) → IsWellFormed text program → IsPlanned s text parts → (hash : Hash) (entries : List Entry) → IsSmallHash hash → AreFull program (packets_of entries) → IsSerialMoment hash program parts entries }
+{}
+
+/// What `compile` gives of a text is its configuration by the plan of the list schedule, which is lawful.
+pub fn compiled_is_planned()
+    ensures { (s : Shape) (text : List ℕ) (parts : PartsForm) → IsCompileAnswer s text (Ok parts) → IsPlanned s text parts }
 {}
 
 /// The text that `compile` puts for a program and a target is that of a configuration which is legal for this target

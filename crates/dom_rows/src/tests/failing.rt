@@ -1,10 +1,10 @@
-use super::{Given, PROGRAM, READS, TRACE, answer, answered, files_of};
+use super::{EVENTS, Given, LATE, PLAN, PROGRAM, READS, TRACE, answer, answered, files_of};
 use std::alloc::Global;
 use std::process::Abort;
 use std::test::Fail;
 
 // Calls of each command and refusals of each kind: the words, the program and the trace.
-const CALLS: [(&str, &str, &str); 18] = [
+const CALLS: [(&str, &str, &str); 26] = [
     ("run raw-small p t", PROGRAM, TRACE),
     ("compile raw-small p", PROGRAM, TRACE),
     ("exec c t", PROGRAM, TRACE),
@@ -23,6 +23,14 @@ const CALLS: [(&str, &str, &str); 18] = [
     ("exec c t", PROGRAM, "no trace"),
     ("watch p t", PROGRAM, TRACE),
     ("serial p t", PROGRAM, "gap,x\n2000000,1\n"),
+    ("codelets raw-small p", LATE, TRACE),
+    ("planned raw-small p t", LATE, PLAN),
+    ("planned raw-small p t", PROGRAM, PLAN),
+    ("elastic c p t", TRACE, EVENTS),
+    ("elastic c p t", TRACE, "no event"),
+    ("schedule c t x 8 4", PROGRAM, TRACE),
+    ("schedule c t x 1 16", PROGRAM, TRACE),
+    ("schedule c t y 8 4", PROGRAM, TRACE),
 ];
 
 // What a call gives where one put takes so many bytes and fails.

@@ -16,14 +16,14 @@ use std::alloc::Global;
 /// Clocks the configuration in one file over the trace in another.
 pub(crate) fn with_config<F: Shelf, S: Sink, H: HashUnits>(
     alloc: Global,
-    what: ConfigTask,
+    what: ConfigTask<'_>,
     files: ConfigFiles<'_>,
     shelf: &mut F,
     sink: &mut S,
     hash: &H,
     taps: Vec<Box<dyn Tap>>,
 ) -> u8
-    ensures end { IsEndAfter (command_over what (configs_in files.entry)) [] (call_of (H.meaning hash.now) (tap_forms (λ b. form b) taps.items) (F.content shelf.old) (F.faults shelf.old) (F.faults shelf.new) (sent_as result (S.held sink.old) (S.held sink.new) (S.faults sink.old) (S.faults sink.new))) }
+    ensures end { IsEndAfter (command_over what.entry (configs_in files.entry)) [] (call_of (H.meaning hash.now) (tap_forms (λ b. form b) taps.items) (F.content shelf.old) (F.faults shelf.old) (F.faults shelf.new) (sent_as result (S.held sink.old) (S.held sink.new) (S.faults sink.old) (S.faults sink.new))) }
     ensures files { (name : List ℕ) → F.content shelf.new name ≡ F.content shelf.old name }
 {
     let text = match text_in(shelf, config_file(files.config)) {

@@ -1,4 +1,4 @@
-ghost use Rattle.std.specs.Prelude.{◌≡◌, ℕ, ◌≤◌, true, List, [], ◌∷◌, IfOk, IfErr, OnOk, Ok};
+ghost use Rattle.std.specs.Prelude.{◌≡◌, ℕ, ◌≤◌, None, List, [], ◌∷◌, IfOk, IfErr, OnOk, Ok, length};
 ghost use Rattle.banzai_config.specs.Checked.{shape_with};
 ghost use Rattle.banzai_config.specs.Parts.{parts_form};
 ghost use Rattle.banzai_config.specs.Targets.{shape_of};
@@ -10,15 +10,16 @@ ghost use Rattle.probe_taps.specs.Taps.{tap_forms};
 ghost use Rattle.dom_shell.specs.Call.{report_of};
 ghost use Rattle.dom_shell.specs.Ends.{IsEndAfter, IsTriedWithMemory, call_of, sent_as};
 ghost use Rattle.dom_shell.specs.RunSetUp.{IsRunSetUp};
-ghost use Rattle.dom_shell.specs.Tasks.{command_over, is_within, job_over};
+ghost use Rattle.dom_shell.specs.Tasks.{command_over, against, job_over};
 
 use crate::commands::clock::{Prepared, traced};
 use crate::commands::probe::put_probe;
+use crate::commands::schedule::put_schedule;
 use crate::commands::task::ConfigTask;
 use crate::ending::{status_of, stopped};
 use atom_traits::AtomTemplate;
 use banzai_config::{Config, Parts, Target};
-use dom_finding::{Refusal, Stop, config_stop};
+use dom_finding::{Stop, config_stop};
 use dom_io::{Shelf, Sink};
 use dom_report::{put_run_report, put_watch_report};
 use dom_words::HashUnits;
@@ -39,7 +40,7 @@ pub(crate) fn over_on<
 >(
     alloc: Global,
     target: Target,
-    what: ConfigTask,
+    what: ConfigTask<'_>,
     parts: Parts,
     trace: &str,
     shelf: &mut F,
@@ -51,7 +52,7 @@ pub(crate) fn over_on<
     requires stateless { (1 ≤ SL) × (SL ≤ 65535) }
     requires stateful { (1 ≤ SF) × (SF ≤ 65535) }
     requires shape { shape_of target ≡ shape_with T.fits T.CONST_BITS DEPTH SL SF MUL }
-    ensures end { (name text : List ℕ) → TextOf target (parts_form parts) text → IsEndAfter (command_over what (configs_named name trace.entry.now)) (text ∷ []) (call_of (H.meaning hash.now) (tap_forms (λ b. form b) taps.items) (F.content shelf.old) (F.faults shelf.old) (F.faults shelf.new) (sent_as result (S.held sink.old) (S.held sink.new) (S.faults sink.old) (S.faults sink.new))) }
+    ensures end { (name text : List ℕ) → TextOf target (parts_form parts) text → IsEndAfter (command_over what.entry (configs_named name trace.entry.now)) (text ∷ []) (call_of (H.meaning hash.now) (tap_forms (λ b. form b) taps.items) (F.content shelf.old) (F.faults shelf.old) (F.faults shelf.new) (sent_as result (S.held sink.old) (S.held sink.new) (S.faults sink.old) (S.faults sink.new))) }
     ensures files { (name : List ℕ) → F.content shelf.new name ≡ F.content shelf.old name }
 {
     match prepare::<T, DEPTH, SL, SF, MUL, F>(alloc, target, what, parts, trace, shelf) {
@@ -60,7 +61,7 @@ pub(crate) fn over_on<
     }
 }
 
-// Asks whether the parts are legal and have the stage that is named, and reads the trace.
+// Asks whether the parts are legal and whether anything stands against the task, and reads the trace.
 fn prepare<
     T: AtomTemplate,
     const DEPTH: usize,
@@ -71,7 +72,7 @@ fn prepare<
 >(
     alloc: Global,
     target: Target,
-    what: ConfigTask,
+    what: ConfigTask<'_>,
     parts: Parts,
     trace: &str,
     shelf: &mut F,
@@ -81,9 +82,10 @@ fn prepare<
     requires stateful { (1 ≤ SF) × (SF ≤ 65535) }
     requires shape { shape_of target ≡ shape_with T.fits T.CONST_BITS DEPTH SL SF MUL }
     ensures set_up { IfOk result (λ run. IsRunSetUp run.machine run.lines run.trace run.entering run.leaving) }
-    ensures within { OnOk result (is_within what DEPTH ≡ true) }
-    ensures found { (name text : List ℕ) → TextOf target (parts_form parts) text → IfOk result (λ run. IsFoundAfter (MayHold (F.content shelf.old)) (command_over what (configs_named name trace.entry.now)) (text ∷ []) (Ok (job_over what run.machine.config run.trace))) }
-    ensures stop { (name text : List ℕ) → TextOf target (parts_form parts) text → IfErr result (StopAfter (command_over what (configs_named name trace.entry.now)) (text ∷ []) (F.content shelf.old) (F.faults shelf.old) (F.faults shelf.new)) }
+    ensures stages { IfOk result (λ run. length run.machine.config.stages ≡ DEPTH) }
+    ensures clear { IfOk result (λ run. against what.entry run.machine.config ≡ None) }
+    ensures found { (name text : List ℕ) → TextOf target (parts_form parts) text → IfOk result (λ run. IsFoundAfter (MayHold (F.content shelf.old)) (command_over what.entry (configs_named name trace.entry.now)) (text ∷ []) (Ok (job_over what.entry run.machine.config run.trace))) }
+    ensures stop { (name text : List ℕ) → TextOf target (parts_form parts) text → IfErr result (StopAfter (command_over what.entry (configs_named name trace.entry.now)) (text ∷ []) (F.content shelf.old) (F.faults shelf.old) (F.faults shelf.new)) }
     ensures kept { OnOk result (AreKept (F.faults shelf.old) (F.faults shelf.new)) }
     ensures files { (name : List ℕ) → F.content shelf.new name ≡ F.content shelf.old name }
 {
@@ -91,11 +93,10 @@ fn prepare<
         Ok(config) => config,
         Err(fault) => return Err(config_stop(fault)),
     };
-    let depth = DEPTH as u32;
-    if !what.is_within(depth) {
-        return Err(Stop::Refused(Refusal::Stage(depth)));
+    match what.against(&config) {
+        Some(refusal) => Err(Stop::Refused(refusal)),
+        None => traced::<T, DEPTH, SL, SF, F>(alloc, config, trace, shelf),
     }
-    traced::<T, DEPTH, SL, SF, F>(alloc, config, trace, shelf)
 }
 
 // Puts what is asked for.
@@ -108,15 +109,16 @@ fn put_over<
     H: HashUnits,
 >(
     alloc: Global,
-    what: ConfigTask,
+    what: ConfigTask<'_>,
     mut run: Prepared<T, DEPTH, SL, SF>,
     hash: &H,
     sink: &mut S,
     taps: Vec<Box<dyn Tap>>,
 ) -> u8
     requires set_up { IsRunSetUp run.machine run.lines run.trace run.entering run.leaving }
-    requires within { is_within what DEPTH ≡ true }
-    ensures { IsTriedWithMemory 0 (report_of (H.meaning hash.now) (tap_forms (λ b. form b) taps.items) (job_over what run.machine.config run.trace)) (sent_as result (S.held sink.old) (S.held sink.new) (S.faults sink.old) (S.faults sink.new)) }
+    requires stages { length run.machine.config.stages ≡ DEPTH }
+    requires clear { against what run.machine.config ≡ None }
+    ensures { IsTriedWithMemory 0 (report_of (H.meaning hash.now) (tap_forms (λ b. form b) taps.items) (job_over what.entry run.machine.config run.trace)) (sent_as result (S.held sink.old) (S.held sink.new) (S.faults sink.old) (S.faults sink.new)) }
 {
     match what {
         ConfigTask::Exec => status_of(put_run_report(
@@ -141,5 +143,6 @@ fn put_over<
             ))
         }
         ConfigTask::Probe(stage) => put_probe(alloc, stage, run, hash, sink, taps),
+        ConfigTask::Schedule(ranking) => put_schedule(alloc, ranking, run, hash, sink),
     }
 }

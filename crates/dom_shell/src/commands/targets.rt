@@ -6,7 +6,9 @@ ghost use Rattle.dom_shell.specs.Ends.{IsEndAfter, call_of, sent_as};
 ghost use Rattle.dom_shell.specs.Tasks.{IsReadFor, command_for, texts_for};
 
 use crate::commands::compile::compile_on;
+use crate::commands::elastic::elastic_on;
 use crate::commands::over::over_on;
+use crate::commands::plans::{codelets_on, planned_on};
 use crate::commands::run::run_on;
 use crate::commands::selfrun::selfrun_on;
 use crate::commands::task::Task;
@@ -133,12 +135,23 @@ fn perform_on<
         Task::Run(trace) => run_on::<T, DEPTH, SL, SF, MUL, F, S, H>(
             alloc, target, text, trace, shelf, sink, hash,
         ),
+        Task::Codelets => { codelets_on::<T, DEPTH, SL, SF, MUL, S>(alloc, target, text, sink) }
+        Task::Planned(plan) => planned_on::<T, DEPTH, SL, SF, MUL, F, S>(
+            alloc, target, text, plan, shelf, sink,
+        ),
         Task::SelfRun { seed, count } => selfrun_on::<T, DEPTH, SL, SF, MUL, S, H>(
             alloc, target, seed, count, text, sink, hash,
         ),
         Task::Upgrade(parts) => {
             upgrade_on::<T, DEPTH, SL, SF, MUL, S>(alloc, target, parts, sink)
         }
+        Task::Elastic {
+            parts,
+            trace,
+            events,
+        } => elastic_on::<T, DEPTH, SL, SF, MUL, F, S, H>(
+            alloc, target, parts, trace, events, shelf, sink, hash,
+        ),
         Task::Config { what, parts, trace } => over_on::<T, DEPTH, SL, SF, MUL, F, S, H>(
             alloc, target, what, parts, trace, shelf, sink, hash, taps,
         ),

@@ -9,6 +9,22 @@ compile_on-requires-clause-text g c = read_task c.args.target c.args.text.now c.
 pub run_on-requires-clause-text : goal.run_on-requires-clause-text
 run_on-requires-clause-text g c = read_task c.args.target c.args.text.now c.args.task (task.Run c.in-Run.trace) c.in-Run.is c.requires.text
 
+pub codelets_on-requires-clause-text : goal.codelets_on-requires-clause-text
+codelets_on-requires-clause-text g c = read_task c.args.target c.args.text.now c.args.task task.Codelets c.in-Codelets.is c.requires.text
+
+pub planned_on-requires-clause-text : goal.planned_on-requires-clause-text
+planned_on-requires-clause-text g c = read_task c.args.target c.args.text.now c.args.task (task.Planned c.in-Planned.plan) c.in-Planned.is c.requires.text
+
+pub returns-in-Codelets-clause-end : goal.returns-in-Codelets-clause-end
+returns-in-Codelets-clause-end g c name =
+    for_task c.args.target name c.args.text.now c.args.task task.Codelets _ c.in-Codelets.is
+    (c.codelets_on.ensures name (g.H.HashUnits.meaning c.args.hash.now) (tap_forms (λ b. (goal.Tap-dyn g (b.vtable, b.value)).form b.value) c.args.taps.items) (g.F.Shelf.content c.args.shelf.now) (g.F.Shelf.faults c.args.shelf.now))
+
+pub returns-in-Planned-clause-end : goal.returns-in-Planned-clause-end
+returns-in-Planned-clause-end g c name =
+    for_task c.args.target name c.args.text.now c.args.task (task.Planned c.in-Planned.plan) _ c.in-Planned.is
+    (c.planned_on.ensures.end name (g.H.HashUnits.meaning c.args.hash.now) (tap_forms (λ b. (goal.Tap-dyn g (b.vtable, b.value)).form b.value) c.args.taps.items))
+
 pub returns-in-Compile-clause-end : goal.returns-in-Compile-clause-end
 returns-in-Compile-clause-end g c name =
     for_task c.args.target name c.args.text.now c.args.task task.Compile _ c.in-Compile.is
@@ -34,6 +50,11 @@ returns-in-Upgrade-clause-end g c name =
     for_task c.args.target name c.args.text.now c.args.task (task.Upgrade c.in-Upgrade.parts) _ c.in-Upgrade.is
     (c.upgrade_on.ensures name c.args.text.now (g.H.HashUnits.meaning c.args.hash.now) (tap_forms (λ b. (goal.Tap-dyn g (b.vtable, b.value)).form b.value) c.args.taps.items) (g.F.Shelf.content c.args.shelf.now) (g.F.Shelf.faults c.args.shelf.now)
     (read_task c.args.target c.args.text.now c.args.task (task.Upgrade c.in-Upgrade.parts) c.in-Upgrade.is c.requires.text))
+
+pub returns-in-Elastic-clause-end : goal.returns-in-Elastic-clause-end
+returns-in-Elastic-clause-end g c name =
+    for_task c.args.target name c.args.text.now c.args.task (task.Elastic c.in-Elastic.parts c.in-Elastic.trace c.in-Elastic.events) _ c.in-Elastic.is
+    (c.elastic_on.ensures.end name c.args.text.now (tap_forms (λ b. (goal.Tap-dyn g (b.vtable, b.value)).form b.value) c.args.taps.items) (read_task c.args.target c.args.text.now c.args.task (task.Elastic c.in-Elastic.parts c.in-Elastic.trace c.in-Elastic.events) c.in-Elastic.is c.requires.text))
 
 pub returns-in-Config-clause-end : goal.returns-in-Config-clause-end
 returns-in-Config-clause-end g c name =
