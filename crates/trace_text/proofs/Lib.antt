@@ -1,5 +1,6 @@
 pub mod EventLines
 pub mod Once
+pub mod PlainRows
 pub mod Reading
 pub mod Records
 pub mod Storing

@@ -4,6 +4,7 @@
 mod events;
 pub mod laws;
 mod lines;
+mod plain;
 mod trace;
 
 pub use events::{Event, EventsFault, read_events};

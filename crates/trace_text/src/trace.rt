@@ -3,9 +3,10 @@ ghost use Rattle.csv.specs.Reading.{records, default_config, strip_bom};
 ghost use Rattle.csv.specs.Records.{fields_of};
 ghost use Rattle.dom_words.specs.Names.{index_of};
 ghost use Rattle.trace_text.specs.Rows.{IsReading, rows_left};
-ghost use Rattle.trace_text.specs.Stored.{numbers_of, stored_packet, word_at};
+ghost use Rattle.trace_text.specs.Stored.{numbers_of, stored_packet, stored_packets, word_at};
 ghost use Rattle.trace_text.specs.Trace.{IsTraceOf, Tells, cycles_of, fields_refusal, gap_at, heading_refusal, most_cycles, refusal_of, rows_refusal, words_at};
 
+use crate::plain::{read_plain_rows, rows_behind_heading};
 use csv::{ByteRecord, Reader, ReaderBuilder};
 use dom_words::{Memory, Name, Names, Packet, read_count, read_word};
 use std::alloc::Global;
@@ -152,7 +153,7 @@ pub fn read_trace(
     }
     let names = read_heading(alloc, &row, fields)?;
     let columns = columns_of(alloc, &names, fields)?;
-    let trace = read_rows(alloc, &mut reader, &mut row, columns)?;
+    let trace = read_rows_behind(alloc, text, &mut reader, &mut row, columns)?;
     let cycles = trace.cycles() + u64::from(depth);
     if cycles > MOST_CYCLES {
         return Err(TraceFault::TooManyCycles(cycles));
@@ -230,13 +231,16 @@ fn columns_of(alloc: Global, names: &Names, fields: &Names) -> Result<Vec<Option
     Ok(columns)
 }
 
-// Reads the rows under the heading. `row` holds the heading at first, and at the end the last row.
-fn read_rows(
+// Reads the rows behind the heading of a text. `row` holds the heading at first, and `reader` has read no more than that.
+fn read_rows_behind(
     alloc: Global,
+    text: &[u8],
     reader: &mut Reader<&[u8]>,
     row: &mut ByteRecord,
     columns: Vec<Option<usize>>,
 ) -> Result<Trace, TraceFault>
+    requires text { records default_config (strip_bom text.now) ≡ fields_of row.old ∷ rows_left reader.old }
+    requires small { length text.now ≤ 16777216 }
     requires reading { IsReading reader.old }
     requires rows { length (rows_left reader.old) ≤ 16777216 }
     requires some { 0 < length (fields_of row.old) }
@@ -246,9 +250,54 @@ fn read_rows(
     ensures packets { IfOk result (λ trace. trace ≡ map (λ r. stored_packet columns.items (numbers_of r)) (rows_left reader.old)) }
     ensures refused { IfErr result (λ fault. Tells fault (rows_refusal (length (fields_of row.old)) 1 (rows_left reader.old))) }
 {
+    match rows_behind_heading(text) {
+        Some(rows) => read_lines(alloc, rows, row, columns),
+        None => read_rows(reader, row, Vec::new(alloc), 0, columns),
+    }
+}
+
+// Reads the rows of a text: the plain ones with which it begins, and then the others. `row` holds the heading at first.
+fn read_lines(
+    alloc: Global,
+    text: &[u8],
+    row: &mut ByteRecord,
+    columns: Vec<Option<usize>>,
+) -> Result<Trace, TraceFault>
+    requires unmarked { strip_bom text.now ≡ text.now }
+    requires small { length text.now ≤ 16777216 }
+    requires rows { length (records default_config text.now) ≤ 16777216 }
+    requires some { 0 < length (fields_of row.old) }
+    requires few { length (fields_of row.old) ≤ 16777217 }
+    requires columns { All (λ column. IfSome column (λ c. c + 1 < length (fields_of row.old))) columns.items }
+    ensures good { OnOk result (rows_refusal (length (fields_of row.old)) 1 (records default_config text.now) ≡ None) }
+    ensures packets { IfOk result (λ trace. trace ≡ map (λ r. stored_packet columns.items (numbers_of r)) (records default_config text.now)) }
+    ensures refused { IfErr result (λ fault. Tells fault (rows_refusal (length (fields_of row.old)) 1 (records default_config text.now))) }
+{
+    let plain = read_plain_rows(alloc, text, row.len())?;
+    let mut reader = reader_of(alloc, plain.behind);
+    read_rows(&mut reader, row, plain.cells, plain.count, columns)
+}
+
+// Reads the rows that are left, behind `count` rows whose numbers are in `cells`. `row` holds a row of the same width at
+// first, and at the end the last row.
+fn read_rows(
+    reader: &mut Reader<&[u8]>,
+    row: &mut ByteRecord,
+    mut cells: Vec<u32>,
+    mut count: u32,
+    columns: Vec<Option<usize>>,
+) -> Result<Trace, TraceFault>
+    requires reading { IsReading reader.old }
+    requires rows { count + length (rows_left reader.old) ≤ 16777216 }
+    requires some { 0 < length (fields_of row.old) }
+    requires few { length (fields_of row.old) ≤ 16777217 }
+    requires stored { length cells.items ≡ count * length (fields_of row.old) }
+    requires columns { All (λ column. IfSome column (λ c. c + 1 < length (fields_of row.old))) columns.items }
+    ensures good { OnOk result (rows_refusal (length (fields_of row.old)) (count + 1) (rows_left reader.old) ≡ None) }
+    ensures packets { IfOk result (λ trace. trace ≡ stored_packets (length (fields_of row.old)) columns.items count cells.items ++ map (λ r. stored_packet columns.items (numbers_of r)) (rows_left reader.old)) }
+    ensures refused { IfErr result (λ fault. Tells fault (rows_refusal (length (fields_of row.old)) (count + 1) (rows_left reader.old))) }
+{
     let width = row.len();
-    let mut cells = Vec::new(alloc);
-    let mut count = 0u32;
     while next_row(reader, row)? {
         count += 1;
         if row.len() != width {

@@ -27,18 +27,18 @@ returns-in_err-names-clause-refused c =
     rw (p.1, p.2) (told (λ r. IsTraceOf c.args.text.now c.args.fields.now c.args.depth (Err r)) _ _ c.in_err-names.ensures.refused
     (refused-heading c.args.text.now c.args.fields.now c.args.depth (fields_of c.next_row.new.row) (rows_left c.next_row.new.reader) rows))
 
-pub read_rows-requires-clause-rows : goal.read_rows-requires-clause-rows
-read_rows-requires-clause-rows c =
+pub read_rows_behind-requires-clause-rows : goal.read_rows_behind-requires-clause-rows
+read_rows_behind-requires-clause-rows c =
     let rows = sym c.reader_of-reader.ensures.rows ∙ rw c.if-not-branch.false at c.in_ok-next_row.ensures.rows in
     rows-few c.args.text.now c.args.fields.now c.args.depth (fields_of c.next_row.new.row) (rows_left c.next_row.new.reader) rows c.requires
 
-pub read_rows-requires-clause-few : goal.read_rows-requires-clause-few
-read_rows-requires-clause-few c =
+pub read_rows_behind-requires-clause-few : goal.read_rows_behind-requires-clause-few
+read_rows_behind-requires-clause-few c =
     let rows = sym c.reader_of-reader.ensures.rows ∙ rw c.if-not-branch.false at c.in_ok-next_row.ensures.rows in
     heading-few c.args.text.now c.args.fields.now c.args.depth (fields_of c.next_row.new.row) (rows_left c.next_row.new.reader) rows c.requires
 
-pub read_rows-requires-clause-columns : goal.read_rows-requires-clause-columns
-read_rows-requires-clause-columns c =
+pub read_rows_behind-requires-clause-columns : goal.read_rows_behind-requires-clause-columns
+read_rows_behind-requires-clause-columns c =
     columns-there (fields_of c.next_row.new.row) c.in_ok-names.names c.args.fields.now c.in_ok-columns.columns.items c.in_ok-names.ensures.some c.in_ok-names.ensures.names c.in_ok-columns.ensures
 
 pub returns-in_err-trace-clause-refused : goal.returns-in_err-trace-clause-refused

@@ -1,0 +1,7 @@
+use Rattle.std.proofs.Common.{◌≡◌, true, take}
+use Rattle.std.specs.List.{list_all}
+use Rattle.trace_text.specs.Plain.{ends_line}
+use Rattle.trace_text.proofs.plain.line_ends.Given as goal
+
+abbrev pub invariant-loop-count : goal.invariant-loop-count
+invariant-loop-count l = list_all ends_line (take l.count l.text) ≡ true
