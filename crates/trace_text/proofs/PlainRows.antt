@@ -1,6 +1,6 @@
 -- Plain rows: what the reader of records gives for them.
-use Rattle.std.proofs.Common.{◌≡◌, ◌⊎◌, get_or, ℕ, zero, suc, ◌+◌, ◌*◌, ◌<◌, ◌≤◌, Bool, true, false, List, [], ◌∷◌, ◌++◌, length, map, take, drop, Option, Some, None, Result, Ok, Err, refl, sym, ◌∙◌, ap, subst, arith, append_assoc, length-append, inl, inr}
-use Rattle.std.specs.Prelude.{◌==◌, IfOk, nat_le, ◌-◌, ◌%◌, ◌^◌, ◌&&◌, ◌||◌, ⊤, not, unwrap_or, is_some}
+use Rattle.std.proofs.Common.{◌≡◌, ◌⊎◌, get_or, ℕ, ◌+◌, ◌<◌, ◌≤◌, Bool, true, false, List, [], ◌∷◌, ◌++◌, length, map, take, drop, Option, Some, None, Result, Ok, Err, refl, sym, ◌∙◌, ap, subst, arith, append_assoc, length-append, inl, inr}
+use Rattle.std.specs.Prelude.{◌==◌, IfOk, nat_le, ◌-◌, ◌%◌, ◌^◌, ◌&&◌, ⊤, not, is_some}
 use Rattle.std.specs.Char.{is_ascii_digit}
 use Rattle.std.specs.List.{list_all}
 use Rattle.std.proofs.lemmas.Bool.{and_from, and_parts, cases_Bool, eqb-true, le-leb, leb-true}
@@ -134,6 +134,7 @@ row-ends s fields field (c ∷ rest) opens h = elim (return_or_feed c h) [
       read = read;
       same = same-records st.AfterCr st.StartRecord rest (13 ∷ rest) refl refl (after_return [] [] rest ∙ sym (skipped 13 rest refl));
     }
+
     fed : {o : Option Read} → o ≡ Some (fields ++ field ∷ [], st.StartRecord, rest) → RowEnds (fields ++ field ∷ []) o (10 ∷ rest)
     fed read = record {
       state = st.StartRecord;
@@ -198,19 +199,19 @@ inside-line c comma h =
 in-line : (s : State) (fields : List (List ℕ)) (field : List ℕ) (c : ℕ) (xs : List ℕ) → is_open s ≡ true → is_in_line c ≡ true → InLine s fields field c xs
 in-line s fields field c xs opens h = elim (cases_Bool (c == 44)) [
   | inl is ↦ rw (eqb-true c 44 is) record {
-      state = st.StartField;
-      fields_after = fields ++ field ∷ [];
-      field_after = [];
-      goes_on = inr refl;
-      step_is = parted s fields field xs opens;
-    }
+    state = st.StartField;
+    fields_after = fields ++ field ∷ [];
+    field_after = [];
+    goes_on = inr refl;
+    step_is = parted s fields field xs opens;
+  }
   | inr isnt ↦ record {
-      state = st.InField;
-      fields_after = fields;
-      field_after = field ++ c ∷ [];
-      goes_on = inl refl;
-      step_is = joined-first s c xs fields field opens (inside-line c isnt h);
-    }
+    state = st.InField;
+    fields_after = fields;
+    field_after = field ++ c ∷ [];
+    goes_on = inl refl;
+    step_is = joined-first s c xs fields field opens (inside-line c isnt h);
+  }
 ]
 
 opens-on : (s : State) → (s ≡ st.InField) ⊎ (s ≡ st.StartField) → is_open s ≡ true
@@ -297,18 +298,11 @@ word-inside (c ∷ rest) value reads = elim (cases_Bool (c == 45)) [
     some : (o : Option ℕ) → negated o ≡ Some value → (n : ℕ) × (o ≡ Some n)
     some None e = cc e
     some (Some n) e = (n, refl)
+
     minus : c ≡ 45 → negated (number_up_to (2 ^ 31) rest) ≡ Some value → (0 < length (c ∷ rest)) × AllInside (c ∷ rest)
     minus is reads =
         let n = some (number_up_to (2 ^ 31) rest) reads in
         (omega arith, rw is (record { comma = refl; quote = refl; return = refl; feed = refl }, (count-inside (2 ^ 31) rest n.0 n.1).1))
-
-minus-none : (most : ℕ) (rest : List ℕ) → number_up_to most (45 ∷ rest) ≡ None
-minus-none most rest = elim (cases_Bool (is_digits (45 ∷ rest))) [
-  | inl is ↦
-      let all = (and_parts (nat_le 1 (length (45 ∷ rest)) && nat_le (length (45 ∷ rest)) 10) (list_all is_ascii_digit (45 ∷ rest)) is).1 in
-      cc ((and_parts (is_ascii_digit 45) (list_all is_ascii_digit rest) all).0)
-  | inr isnt ↦ rw isnt refl
-]
 
 small-number : (most : ℕ) (text : List ℕ) (value : ℕ) → number_up_to most text ≡ Some value → value ≤ most
 small-number most text value reads = elim (cases_Bool (is_digits text && nat_le (digits_value text) most)) [
@@ -319,17 +313,6 @@ small-number most text value reads = elim (cases_Bool (is_digits text && nat_le 
       omega (arith, within, value_is)
   | inr isnt ↦ cc (rw isnt at reads)
 ]
-
--- the number of a text that does not begin with a minus sign is a word
-pub count-word : (text : List ℕ) (value : ℕ) (behind : List ℕ) → LeadsWith count_of text value behind → LeadsWith word_of_text text value behind
-count-word text value behind leads = record { number = leads.number; parts = leads.parts; reads = word leads.number leads.reads }
-  where
-    word : (number : List ℕ) → count_of number ≡ Some value → word_of_text number ≡ Some value
-    word [] reads = cc reads
-    word (c ∷ rest) reads = elim (cases_Bool (c == 45)) [
-      | inl is ↦ let first = eqb-true c 45 is in cc (minus-none (2 ^ 32 - 1) rest, rw first at reads)
-      | inr isnt ↦ rw isnt reads
-    ]
 
 negated-is : (word size : ℕ) → (word + size) % 4294967296 ≡ 0 → word < 4294967296 → size ≤ 2147483648 → word ≡ (2 ^ 32 - size) % 2 ^ 32
 negated-is word size h small fits = omega arith
@@ -491,7 +474,7 @@ pub rows-behind : (text line rows : List ℕ) (count size : ℕ) → line ≡ dr
     → (heading : List (List ℕ)) (rest : List (List (List ℕ))) → records default_config text ≡ heading ∷ rest → rest ≡ records default_config rows
 rows-behind text line rows count size line_is rows_is skip inside some within ended heading rest are =
     let parts : text ≡ take count text ++ (take size line ++ rows) =
-        sym (take-append-drop count text) ∙ ap (λ (l : List ℕ). take count text ++ l) (sym line_is ∙ sym (take-append-drop size line) ∙ ap (λ (l : List ℕ). take size line ++ l) (sym rows_is)) in
+    sym (take-append-drop count text) ∙ ap (λ (l : List ℕ). take count text ++ l) (sym line_is ∙ sym (take-append-drop size line) ∙ ap (λ (l : List ℕ). take size line ++ l) (sym rows_is)) in
     let some_of : 0 < length (take size line) = rw (length-take-le size line within) some in
     behind-heading (take count text) (take size line) rows heading rest skip some_of inside ended (ap (records default_config) (sym parts) ∙ are)
 

@@ -1,4 +1,4 @@
-use Rattle.std.proofs.Common.{ℕ, ◌+◌, ◌<◌, length, take, sym, ap, subst, ◌∙◌, arith}
+use Rattle.std.proofs.Common.{◌+◌, ◌<◌, length, take, sym, ap, subst, ◌∙◌, arith}
 use Rattle.trace_text.specs.EventWords.{BeginsWith, event_of, feed_size}
 use Rattle.trace_text.proofs.EventLines.{begins, no_event, no_feed}
 use Rattle.trace_text.proofs.events.first_event.Goals as goal

@@ -1,4 +1,4 @@
-use Rattle.std.proofs.Common.{◌≡◌, ℕ, ◌+◌, ◌∷◌, [], List, ◌++◌, refl, sym, ap, subst, ◌∙◌, append_assoc, arith}
+use Rattle.std.proofs.Common.{◌≡◌, ℕ, ◌∷◌, [], List, ◌++◌, sym, ap, subst, ◌∙◌, append_assoc, arith}
 use Rattle.trace_text.specs.Plain.{IsPlainRow}
 use Rattle.trace_text.proofs.PlainRows.{AtField, first-field, kept-front, next-field, whole-row}
 use Rattle.trace_text.proofs.plain.push_plain_row.Goals as goal
@@ -16,8 +16,7 @@ pub loop-column-preserved : goal.loop-column-preserved
 loop-column-preserved c =
     let inv = c.loop-column.invariant in
     let word = c.in-Some-leading_word.word in
-    let at = subst (λ (l : List ℕ). AtField c.args.text.now l c.loop-column._column inv.0) c.in-Some-behind_byte.ensures inv.2 in
-    (
+    let at = subst (λ (l : List ℕ). AtField c.args.text.now l c.loop-column._column inv.0) c.in-Some-behind_byte.ensures inv.2 in (
       inv.0 ++ word ∷ [],
       c.in_ok-push-2.ensures ∙ ap (λ (l : List ℕ). l ++ word ∷ []) inv.1 ∙ append_assoc c.args.cells.now.items inv.0 (word ∷ []),
       next-field c.args.text.now c.in-Some-behind_byte.rest.now c.loop-column._column inv.0 word c.in-Some-leading_word.rest.now at c.in-Some-leading_word.ensures,

@@ -1,5 +1,4 @@
-use Rattle.std.proofs.Common.{◌≡◌, ◌≤◌, List, ℕ, length, sym, ap, ◌∙◌, arith, length-drop}
-use Rattle.csv.specs.Reading.{strip_bom}
+use Rattle.std.proofs.Common.{◌≤◌, length, sym, ap, ◌∙◌, arith, length-drop}
 use Rattle.trace_text.proofs.PlainRows.{rows-behind, shorter-unmarked, unmarked-at-end}
 use Rattle.trace_text.proofs.plain.rows_behind_heading.Goals as goal
 
