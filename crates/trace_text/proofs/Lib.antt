@@ -1,4 +1,5 @@
 pub mod EventLines
+pub mod Made
 pub mod Once
 pub mod PlainRows
 pub mod Reading

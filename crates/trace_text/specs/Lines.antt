@@ -1,5 +1,5 @@
 -- The lines of a report, as bytes.
-use Rattle.std.specs.Prelude.{ℕ, ◌+◌, ◌*◌, ◌≤◌, All, List, [], ◌∷◌, ◌++◌, Option, codes, decimal, length, map, slice_index_or}
+use Rattle.std.specs.Prelude.{ℕ, ◌+◌, ◌*◌, ◌≤◌, All, List, [], ◌∷◌, ◌++◌, Option, codes, decimal, drop, length, map, slice_index_or}
 use Rattle.std.specs.Fmt.{signed_decimal}
 use Rattle.std.specs.List.{flat_map}
 use Rattle.std.specs.Option.{option_to_list}
@@ -86,6 +86,10 @@ drop_line cycle words = line_of (codes "drop" ∷ count_text cycle ∷ map word_
 -- the end: how many packets, and in how many cycles where cycles are counted, or how many of them have left
 abbrev pub done_line : ℕ → Option ℕ → List ℕ
 done_line packets cycles = line_of (codes "done" ∷ count_text packets ∷ map count_text (option_to_list cycles))
+
+-- a line that is made from its end, in a buffer in which it begins here
+abbrev pub made : ℕ → List ℕ → List ℕ
+made start bytes = drop start bytes
 
 -- what lines are made of: the names of the fields and of the arrays, and the largest number of words of a line
 pub record Legend : Type 0 where

@@ -1,11 +1,11 @@
-ghost use Rattle.std.specs.Prelude.{◌≡◌, ◌+◌, ◌*◌, ◌<◌, ◌≤◌, ◌⊎◌, ℕ, All, List, [], ◌∷◌, ◌++◌, codes, length, map, max, vec_capacity, vec_len, IfOk, IfSome};
+ghost use Rattle.std.specs.Prelude.{◌≡◌, ◌+◌, ◌*◌, ◌<◌, ◌≤◌, ◌⊎◌, ℕ, All, List, [], ◌∷◌, ◌++◌, codes, decimal, length, map, max, vec_len, IfOk, IfSome};
 ghost use Rattle.dom_io.specs.Causes.{HasCause};
 ghost use Rattle.dom_io.specs.Held.{Puts};
-ghost use Rattle.trace_text.specs.Lines.{after_commas, clock_line, count_text, done_line, drop_line, head_line, held_line, HasRoom, name_at, out_line, packet_line, place_line, reg_line, state_line, tap_line, touch_line, wait_line, word_text};
+ghost use Rattle.trace_text.specs.Lines.{after_commas, clock_line, count_text, done_line, drop_line, head_line, held_line, HasRoom, made, name_at, out_line, packet_line, place_line, reg_line, state_line, tap_line, touch_line, wait_line, word_text};
 
 use dom_io::{Sink, SinkFault};
 use dom_words::{ArrayList, Memory, Name, Names, Seq, signed};
-use itoa::Buffer;
+use itoa::write_digits;
 use std::alloc::Global;
 use std::marker::Model;
 
@@ -22,13 +22,14 @@ pub struct Lines {
 }
 
 impl Model for Lines {
+    ghost use Rattle.std.specs.Prelude.{vec_len};
     ghost use Rattle.trace_text.specs.Lines.{Legend, HasRoom};
 
     ghost Value = { Legend };
 
     ghost view = { λ l. record { fields = l.fields; arrays = l.arrays; words = l.words } };
 
-    ghost invariant = { λ l. HasRoom (record { fields = l.fields; arrays = l.arrays; words = l.words }) l.line.room };
+    ghost invariant = { λ l. HasRoom (record { fields = l.fields; arrays = l.arrays; words = l.words }) (vec_len l.line.bytes) };
 }
 
 impl Lines {
@@ -64,8 +65,9 @@ impl Lines {
         ensures cause { HasCause (S.faults sink.old) (S.faults sink.new) result }
         ensures same { self.new ≡ self.old }
     {
-        self.line.start(word.as_bytes());
+        self.line.end();
         self.line.names(self.fields.as_slice());
+        self.line.text(word.as_bytes());
         self.line.put(sink)
     }
 
@@ -81,8 +83,9 @@ impl Lines {
         ensures cause { HasCause (S.faults sink.old) (S.faults sink.new) result }
         ensures same { self.new ≡ self.old }
     {
-        self.line.start(Buffer::new().format(lead).as_bytes());
+        self.line.end();
         self.line.words(words);
+        self.line.lead(lead);
         self.line.put(sink)
     }
 
@@ -99,10 +102,11 @@ impl Lines {
         ensures cause { HasCause (S.faults sink.old) (S.faults sink.new) result }
         ensures same { self.new ≡ self.old }
     {
-        self.line.start(b"state");
-        self.line.text(self.arrays.get(array).as_bytes());
-        self.line.count(u64::from(index));
+        self.line.end();
         self.line.word(word);
+        self.line.count(u64::from(index));
+        self.line.part(self.arrays.get(array).as_bytes());
+        self.line.text(b"state");
         self.line.put(sink)
     }
 
@@ -118,9 +122,10 @@ impl Lines {
         ensures cause { HasCause (S.faults sink.old) (S.faults sink.new) result }
         ensures same { self.new ≡ self.old }
     {
-        self.line.start(b"place");
-        self.line.text(self.arrays.get(array).as_bytes());
+        self.line.end();
         self.line.count(u64::from(stage));
+        self.line.part(self.arrays.get(array).as_bytes());
+        self.line.text(b"place");
         self.line.put(sink)
     }
 
@@ -130,9 +135,10 @@ impl Lines {
         ensures cause { HasCause (S.faults sink.old) (S.faults sink.new) result }
         ensures same { self.new ≡ self.old }
     {
-        self.line.start(b"tap");
-        self.line.count(number);
+        self.line.end();
         self.line.count(value);
+        self.line.count(number);
+        self.line.text(b"tap");
         self.line.put(sink)
     }
 
@@ -142,8 +148,9 @@ impl Lines {
         ensures cause { HasCause (S.faults sink.old) (S.faults sink.new) result }
         ensures same { self.new ≡ self.old }
     {
-        self.line.start(b"cycle");
+        self.line.end();
         self.line.count(cycle);
+        self.line.text(b"cycle");
         self.line.put(sink)
     }
 
@@ -154,8 +161,9 @@ impl Lines {
         ensures cause { HasCause (S.faults sink.old) (S.faults sink.new) result }
         ensures same { self.new ≡ self.old }
     {
-        self.line.start(b"out");
+        self.line.end();
         self.line.words(words);
+        self.line.text(b"out");
         self.line.put(sink)
     }
 
@@ -166,9 +174,10 @@ impl Lines {
         ensures cause { HasCause (S.faults sink.old) (S.faults sink.new) result }
         ensures same { self.new ≡ self.old }
     {
-        self.line.start(b"reg");
-        self.line.count(u64::from(k));
+        self.line.end();
         self.line.words(words);
+        self.line.count(u64::from(k));
+        self.line.text(b"reg");
         self.line.put(sink)
     }
 
@@ -185,10 +194,11 @@ impl Lines {
         ensures cause { HasCause (S.faults sink.old) (S.faults sink.new) result }
         ensures same { self.new ≡ self.old }
     {
-        self.line.start(b"touch");
-        self.line.count(u64::from(stage));
-        self.line.text(self.arrays.get(array).as_bytes());
+        self.line.end();
         self.line.count(u64::from(index));
+        self.line.part(self.arrays.get(array).as_bytes());
+        self.line.count(u64::from(stage));
+        self.line.text(b"touch");
         self.line.put(sink)
     }
 
@@ -198,8 +208,9 @@ impl Lines {
         ensures cause { HasCause (S.faults sink.old) (S.faults sink.new) result }
         ensures same { self.new ≡ self.old }
     {
-        self.line.start(b"wait");
+        self.line.end();
         self.line.count(number);
+        self.line.text(b"wait");
         self.line.put(sink)
     }
 
@@ -209,8 +220,9 @@ impl Lines {
         ensures cause { HasCause (S.faults sink.old) (S.faults sink.new) result }
         ensures same { self.new ≡ self.old }
     {
-        self.line.start(b"held");
+        self.line.end();
         self.line.count(count);
+        self.line.text(b"held");
         self.line.put(sink)
     }
 
@@ -226,9 +238,10 @@ impl Lines {
         ensures cause { HasCause (S.faults sink.old) (S.faults sink.new) result }
         ensures same { self.new ≡ self.old }
     {
-        self.line.start(b"drop");
-        self.line.count(cycle);
+        self.line.end();
         self.line.words(words);
+        self.line.count(cycle);
+        self.line.text(b"drop");
         self.line.put(sink)
     }
 
@@ -243,122 +256,162 @@ impl Lines {
         ensures cause { HasCause (S.faults sink.old) (S.faults sink.new) result }
         ensures same { self.new ≡ self.old }
     {
-        self.line.start(b"done");
-        self.line.count(packets);
+        self.line.end();
         if let Some(cycles) = cycles {
             self.line.count(cycles);
         }
+        self.line.count(packets);
+        self.line.text(b"done");
         self.line.put(sink)
     }
 }
 
-// A line while it is made. Its buffer has had its room from the start.
+// A line while it is made, from its last byte to its first, so that each number is written where it stays. What is made stands
+// from `start` on in a buffer that has had its room from the beginning.
 #[derive(Drop)]
 struct Line {
     bytes: Vec<u8>,
-    room: usize,
-    ghost room_is_taken: { room ≤ vec_capacity bytes },
+    start: usize,
+    ghost line_is_within: { start ≤ vec_len bytes },
 }
 
 impl Line {
     fn with_room(alloc: Global, room: usize) -> Result<Line, Memory>
-        ensures { IfOk result (λ line. line.room ≡ room) }
+        ensures { IfOk result (λ line. vec_len line.bytes ≡ room) }
     {
-        let bytes = Vec::with_capacity(alloc, room).map_err(|_| Memory)?;
-        Ok(Line { bytes, room })
+        let bytes = vec![in alloc; 0u8; room].map_err(|_| Memory)?;
+        Ok(Line { bytes, start: room })
     }
 
-    // Begins the next line with this text.
+    // Begins the next line with its line feed.
     #[inline(always)]
-    fn start(&mut self, text: &[u8])
-        requires { length text.now ≤ self.old.room }
-        ensures text { self.new.bytes.items ≡ text.now }
-        ensures len { vec_len self.new.bytes ≡ length text.now }
-        ensures room { self.new.room ≡ self.old.room }
+    fn end(&mut self)
+        requires { 0 < vec_len self.old.bytes }
+        ensures text { made self.new.start self.new.bytes.items ≡ 10 ∷ [] }
+        ensures left { self.new.start + 1 ≡ vec_len self.old.bytes }
+        ensures room { vec_len self.new.bytes ≡ vec_len self.old.bytes }
     {
-        self.bytes.clear();
-        self.append(text);
+        self.start = self.bytes.len();
+        self.byte(b'\n');
     }
 
     #[inline(always)]
-    fn append(&mut self, text: &[u8])
-        requires { vec_len self.old.bytes + length text.now ≤ self.old.room }
-        ensures text { self.new.bytes.items ≡ self.old.bytes.items ++ text.now }
-        ensures len { vec_len self.new.bytes ≡ vec_len self.old.bytes + length text.now }
-        ensures room { self.new.room ≡ self.old.room }
+    fn byte(&mut self, byte: u8)
+        requires { 0 < self.old.start }
+        ensures text { made self.new.start self.new.bytes.items ≡ byte ∷ made self.old.start self.old.bytes.items }
+        ensures left { self.new.start + 1 ≡ self.old.start }
+        ensures room { vec_len self.new.bytes ≡ vec_len self.old.bytes }
     {
-        if self.bytes.extend_from_slice(text).is_err() {
-            unreachable!()
-        }
+        let at = self.start - 1;
+        self.bytes[at] = byte;
+        self.start = at;
+    }
+
+    #[inline(always)]
+    fn text(&mut self, text: &[u8])
+        requires { length text.now ≤ self.old.start }
+        ensures text { made self.new.start self.new.bytes.items ≡ text.now ++ made self.old.start self.old.bytes.items }
+        ensures left { self.new.start + length text.now ≡ self.old.start }
+        ensures room { vec_len self.new.bytes ≡ vec_len self.old.bytes }
+    {
+        let end = self.start;
+        let at = end - text.len();
+        self.bytes[at..end].copy_from_slice(text);
+        self.start = at;
+    }
+
+    // The number in decimals.
+    #[inline(always)]
+    fn decimals(&mut self, number: u64)
+        requires { length (decimal number) ≤ self.old.start }
+        ensures text { made self.new.start self.new.bytes.items ≡ decimal number ++ made self.old.start self.old.bytes.items }
+        ensures left { self.new.start + length (decimal number) ≡ self.old.start }
+        ensures room { vec_len self.new.bytes ≡ vec_len self.old.bytes }
+    {
+        self.start = write_digits(number, self.bytes.as_mut_slice(), self.start);
     }
 
     // A comma and the text.
     #[inline(always)]
-    fn text(&mut self, text: &[u8])
-        requires { vec_len self.old.bytes + length text.now < self.old.room }
-        ensures text { self.new.bytes.items ≡ self.old.bytes.items ++ 44 ∷ text.now }
-        ensures len { vec_len self.new.bytes ≡ vec_len self.old.bytes + length text.now + 1 }
-        ensures room { self.new.room ≡ self.old.room }
+    fn part(&mut self, text: &[u8])
+        requires { length text.now < self.old.start }
+        ensures text { made self.new.start self.new.bytes.items ≡ 44 ∷ text.now ++ made self.old.start self.old.bytes.items }
+        ensures left { self.new.start + length text.now + 1 ≡ self.old.start }
+        ensures room { vec_len self.new.bytes ≡ vec_len self.old.bytes }
     {
-        self.append(b",");
-        self.append(text);
+        self.text(text);
+        self.byte(b',');
+    }
+
+    // The count that begins a line, in decimals.
+    fn lead(&mut self, count: u64)
+        requires { 20 ≤ self.old.start }
+        ensures text { made self.new.start self.new.bytes.items ≡ count_text count ++ made self.old.start self.old.bytes.items }
+        ensures left { self.old.start ≤ self.new.start + 20 }
+        ensures some { self.new.start < self.old.start }
+        ensures room { vec_len self.new.bytes ≡ vec_len self.old.bytes }
+    {
+        self.decimals(count);
     }
 
     // A comma and the count, in decimals.
     fn count(&mut self, count: u64)
-        requires { vec_len self.old.bytes + 21 ≤ self.old.room }
-        ensures text { self.new.bytes.items ≡ self.old.bytes.items ++ 44 ∷ count_text count }
-        ensures len { vec_len self.new.bytes ≤ vec_len self.old.bytes + 21 }
-        ensures room { self.new.room ≡ self.old.room }
+        requires { 21 ≤ self.old.start }
+        ensures text { made self.new.start self.new.bytes.items ≡ 44 ∷ count_text count ++ made self.old.start self.old.bytes.items }
+        ensures left { self.old.start ≤ self.new.start + 21 }
+        ensures room { vec_len self.new.bytes ≡ vec_len self.old.bytes }
     {
-        self.text(Buffer::new().format(count).as_bytes());
+        self.lead(count);
+        self.byte(b',');
     }
 
     // A comma and the word, in signed decimals.
     #[inline(always)]
     fn word(&mut self, word: u32)
-        requires { vec_len self.old.bytes + 12 ≤ self.old.room }
-        ensures text { self.new.bytes.items ≡ self.old.bytes.items ++ 44 ∷ word_text word }
-        ensures len { vec_len self.new.bytes ≤ vec_len self.old.bytes + 12 }
-        ensures room { self.new.room ≡ self.old.room }
+        requires { 12 ≤ self.old.start }
+        ensures text { made self.new.start self.new.bytes.items ≡ 44 ∷ word_text word ++ made self.old.start self.old.bytes.items }
+        ensures left { self.old.start ≤ self.new.start + 12 }
+        ensures room { vec_len self.new.bytes ≡ vec_len self.old.bytes }
     {
-        self.text(Buffer::new().format(signed(word)).as_bytes());
+        let number = signed(word);
+        self.decimals(u64::from(number.unsigned_abs()));
+        if number < 0 {
+            self.byte(b'-');
+        }
+        self.byte(b',');
     }
 
     // The names, each after a comma.
     fn names(&mut self, names: &[Name])
-        requires { vec_len self.old.bytes + length (after_commas names.now) ≤ self.old.room }
-        ensures text { self.new.bytes.items ≡ self.old.bytes.items ++ after_commas names.now }
-        ensures len { vec_len self.new.bytes ≡ vec_len self.old.bytes + length (after_commas names.now) }
-        ensures room { self.new.room ≡ self.old.room }
+        requires { length (after_commas names.now) ≤ self.old.start }
+        ensures text { made self.new.start self.new.bytes.items ≡ after_commas names.now ++ made self.old.start self.old.bytes.items }
+        ensures left { self.new.start + length (after_commas names.now) ≡ self.old.start }
+        ensures room { vec_len self.new.bytes ≡ vec_len self.old.bytes }
     {
-        for name in names {
-            self.text(name.as_bytes());
+        for k in (0..names.len()).rev() {
+            self.part(names[k].as_bytes());
         }
     }
 
     // The words in signed decimals, each after a comma.
     #[inline(always)]
     fn words(&mut self, words: &[u32])
-        requires { vec_len self.old.bytes + 12 * length words.now ≤ self.old.room }
-        ensures text { self.new.bytes.items ≡ self.old.bytes.items ++ after_commas (map word_text words.now) }
-        ensures len { vec_len self.new.bytes ≤ vec_len self.old.bytes + 12 * length words.now }
-        ensures room { self.new.room ≡ self.old.room }
+        requires { 12 * length words.now ≤ self.old.start }
+        ensures text { made self.new.start self.new.bytes.items ≡ after_commas (map word_text words.now) ++ made self.old.start self.old.bytes.items }
+        ensures left { self.old.start ≤ self.new.start + 12 * length words.now }
+        ensures room { vec_len self.new.bytes ≡ vec_len self.old.bytes }
     {
-        for word in words {
-            self.word(*word);
+        for k in (0..words.len()).rev() {
+            self.word(words[k]);
         }
     }
 
-    // Ends the line, and puts it.
-    fn put<S: Sink>(&mut self, sink: &mut S) -> Result<(), SinkFault>
-        requires { vec_len self.old.bytes < self.old.room }
-        ensures bytes { Puts (S.held sink.old) (S.held sink.new) (self.old.bytes.items ++ 10 ∷ []) result }
+    fn put<S: Sink>(&self, sink: &mut S) -> Result<(), SinkFault>
+        requires { self.now.start < vec_len self.now.bytes }
+        ensures bytes { Puts (S.held sink.old) (S.held sink.new) (made self.now.start self.now.bytes.items) result }
         ensures cause { HasCause (S.faults sink.old) (S.faults sink.new) result }
-        ensures room { self.new.room ≡ self.old.room }
     {
-        self.append(b"\n");
-        sink.put(self.bytes.as_slice())
+        sink.put(&self.bytes[self.start..])
     }
 }
 

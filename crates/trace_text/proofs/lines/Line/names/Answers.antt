@@ -1,10 +1,16 @@
-use Rattle.std.proofs.Common.{◌∷◌, ◌∙◌, ap, arith, length, sym}
-use Rattle.std.proofs.lemmas.List.Folds.{length-flat_map-take}
+use Rattle.std.proofs.Common.{◌≡◌, ◌-◌, ◌<◌, ℕ, suc, List, length, drop, sym, ap, ◌∙◌, arith}
+use Rattle.trace_text.specs.Lines.{after_commas}
+use Rattle.trace_text.proofs.Made.{names-fit}
 use Rattle.trace_text.proofs.lines.Line.names.Goals as goal
 
-pub text-requires : goal.text-requires
-text-requires c =
+pub part-requires : goal.part-requires
+part-requires c =
     let names = c.args.names.now in
-    let k = c.loop-name.name-index in
-    let below = length-flat_map-take (λ part. 44 ∷ part) names k c.name-item.result c.loop-name-test.true in
-    omega (arith, below, ap length (sym c.name-item.is ∙ sym c.as_bytes.ensures))
+    let k = c.loop-k.k in
+    let some = c.loop-k-test.true in
+    let within : k - 1 < length names = let most = c.loop-k.auto.k in omega arith in
+    let next : suc (k - 1) ≡ k = omega arith in
+    let fit = names-fit names (k - 1) c.index-names-k.result within in
+    let rest = ap (λ (n : ℕ). length (after_commas (drop n names))) next in
+    let size = ap length (c.as_bytes.ensures ∙ c.index-names-k.is) in
+    omega (arith, fit, rest, size, c.loop-k.invariant.left, c.requires)
