@@ -1,4 +1,4 @@
-use Rattle.std.proofs.Common.{◌≡◌, ◌-◌, ◌<◌, ℕ, suc, List, length, drop, sym, ap, ◌∙◌, arith}
+use Rattle.std.proofs.Common.{◌≡◌, ◌-◌, ◌<◌, ℕ, suc, length, drop, ap, ◌∙◌, arith}
 use Rattle.trace_text.specs.Lines.{after_commas}
 use Rattle.trace_text.proofs.Made.{names-fit}
 use Rattle.trace_text.proofs.lines.Line.names.Goals as goal

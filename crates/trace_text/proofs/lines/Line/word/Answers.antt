@@ -1,4 +1,4 @@
-use Rattle.std.proofs.Common.{◌≡◌, ◌≤◌, ◌<◌, ◌+◌, ℕ, decimal, length, ap, arith}
+use Rattle.std.proofs.Common.{◌≡◌, ◌≤◌, ℕ, decimal, length, ap, arith}
 use Rattle.std.proofs.lemmas.Fmt.{length-decimal-le}
 use Rattle.trace_text.proofs.lines.Line.word.Goals as goal
 use Rattle.trace_text.proofs.lines.Line.word.Goals.{then-number-lt0, else-number-lt0}

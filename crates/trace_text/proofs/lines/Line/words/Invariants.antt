@@ -1,4 +1,4 @@
-use Rattle.std.proofs.Common.{◌≡◌, ◌+◌, ◌-◌, ◌*◌, ◌≤◌, ◌++◌, drop, length, map, vec_len}
+use Rattle.std.proofs.Common.{◌≡◌, ◌+◌, ◌*◌, ◌≤◌, ◌++◌, drop, length, map, vec_len}
 use Rattle.trace_text.specs.Lines.{after_commas, made, word_text}
 use Rattle.trace_text.proofs.lines.Line.words.Given as goal
 
