@@ -7,6 +7,7 @@ use Rattle.dom_ast.specs.Straight.{StepForm}
 use Rattle.branch_removal.specs.declared.branch.Branch.{Branch}
 use Rattle.branch_removal.specs.declared.branch.Branch.TheVariants.{Then, Else}
 
+-- a target gets a value
 abbrev pub step : Goal → PartForm → StepForm
 step g p = record { target = g; value = p }
 
@@ -15,12 +16,14 @@ abbrev pub moved : Branch → PartForm → PartForm → PartForm
 moved (Then k) new old = choice (fresh k) new old
 moved (Else k) new old = choice (fresh k) old new
 
+-- a step of a branch, by its target and its value
 abbrev pub guarded_at : Branch → Goal → PartForm → StepForm
 guarded_at b (goal.Field f) p = step (goal.Field f) (moved b p (field f))
 guarded_at b (goal.State a i) p = step (goal.State a i) (moved b p (state a i))
 guarded_at b (goal.Fresh k) p = step (goal.Fresh k) p
 
--- a step of a branch: a conditional move, but where its target is a fresh name it stays as it is
+-- A step of a branch is a conditional move. Where its target is a fresh name it stays as it is, since steps of that branch
+-- alone use the name.
 abbrev pub guarded : Branch → StepForm → StepForm
 guarded b s = guarded_at b s.target s.value
 
@@ -47,6 +50,7 @@ abbrev mutual
   acts_steps n no_acts = []
   acts_steps n (act a rest) = act_steps n a ++ acts_steps (n + act_ifs a) rest
 
+-- 1 where there is a guard
 abbrev pub guard_count : Option PartForm → ℕ
 guard_count None = 0
 guard_count (Some p) = 1
@@ -61,6 +65,7 @@ abbrev pub ifs : List BodyForm → ℕ
 ifs [] = 0
 ifs (body ∷ bodies) = acts_ifs body.acts + ifs bodies
 
+-- the step of a guard, if there is one: fresh name k gets its word
 abbrev pub guard_step : ℕ → Option PartForm → List StepForm
 guard_step k None = []
 guard_step k (Some p) = step (goal.Fresh k) p ∷ []
@@ -86,6 +91,7 @@ bodies_steps k n (body ∷ bodies) =
 abbrev pub straight : List BodyForm → List StepForm
 straight bodies = guard_steps 0 bodies ++ bodies_steps 0 (guards bodies) bodies
 
+-- the fresh name that a target is
 abbrev pub goal_names : Goal → List ℕ
 goal_names (goal.Field f) = []
 goal_names (goal.State a i) = []

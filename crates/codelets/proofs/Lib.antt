@@ -21,7 +21,9 @@ pub mod Rounds
 pub mod Firsts
 pub mod Ordered
 pub mod Onces
-pub mod MarkedUses
+pub mod UsedNumbers
+pub mod Owned
+pub mod Leasts
 pub mod Tight
 pub mod AllLaws
 pub mod Sampler

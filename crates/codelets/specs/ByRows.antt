@@ -1,11 +1,13 @@
 -- The codelets of a statement list by the rows of its graph, as they are found.
 use Rattle.std.specs.Prelude.{ℕ, Bool, ◌&&◌, nat_lt, List, length, map, Option, Some, None}
+use Rattle.std.specs.List.{filter}
 use Rattle.dom_flat.specs.declared.flat.Flat.{Flat}
 use Rattle.dom_flat.specs.declared.line.Operand.{Operand}
 use Rattle.dep_graph.specs.Rows.{cell}
 use Rattle.dom_flat.specs.Form.{flat_form}
+use Rattle.dom_flat.specs.Lines.{is_flank}
 use Rattle.codelets.specs.Flat.{linked}
-use Rattle.codelets.specs.Linked.{Linked}
+use Rattle.codelets.specs.Linked.{Linked, is_so, numbers}
 use Rattle.codelets.specs.Cut.{Cut, cut, outer, seen_by, used_in}
 
 -- a number past the rows reaches nothing
@@ -26,3 +28,7 @@ seen_for D (Some b) o = seen_by D b o
 -- the places of the codelets that each codelet uses, by number
 abbrev pub use_lists : Cut → List (List ℕ)
 use_lists D = map (used_in D D.all) D.all
+
+-- the numbers of the flanks
+abbrev pub flanks_of : Linked → List ℕ
+flanks_of P = filter (is_so P is_flank) (numbers P)

@@ -8,5 +8,5 @@ pub mod Extended
 pub mod Flat
 pub mod ByRows
 pub mod Leveled
-pub mod Marks
+pub mod Used
 pub mod Laws

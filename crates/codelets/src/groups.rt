@@ -1,7 +1,7 @@
-ghost use Rattle.std.specs.Prelude.{◌≡◌, ◌+◌, ◌<◌, IfOk, length, nat_lt, not, ◌&&◌, ◌||◌, [], ◌∷◌, ◌++◌};
+ghost use Rattle.std.specs.Prelude.{◌≡◌, ◌+◌, ◌<◌, IfOk, length, nat_lt, true, not, ◌&&◌, ◌||◌, [], ◌∷◌, ◌++◌};
 ghost use Rattle.codelets.specs.Lists.{has};
 ghost use Rattle.std.specs.List.{list_any, range_with_len};
-ghost use Rattle.codelets.specs.ByRows.{linked_by, reaches_in};
+ghost use Rattle.codelets.specs.ByRows.{flanks_of, linked_by, reaches_in};
 ghost use Rattle.codelets.specs.Linked.{class_of, is_first, is_inner, is_so, is_stateful, is_used_outside, is_written, together, twins_of, uses_value};
 ghost use Rattle.dom_flat.specs.Lines.{is_fetch, is_flank, is_value, operands_of, stores, uses};
 
@@ -64,21 +64,16 @@ pub fn are_together(flat: &Flat, graph: &Graph, a: u32, b: u32) -> bool
     reaches_at(graph, a, b) && reaches_at(graph, b, a)
 }
 
-/// The class of a statement, in order.
-pub fn class_with(
-    alloc: Global,
-    flat: &Flat,
-    graph: &Graph,
-    numbers: &[u32],
-    a: u32,
-) -> Result<Numbers, Memory>
-    requires { numbers.now ≡ range_with_len 0 (length flat.now.lines) }
+/// The class of its least statement, in order.
+pub fn class_with(alloc: Global, flat: &Flat, graph: &Graph, a: u32) -> Result<Numbers, Memory>
+    requires within { a < length flat.now.lines }
+    requires least { is_first (linked_by flat.now graph.now) a ≡ true }
     ensures { IfOk result (λ c. c ≡ class_of (linked_by flat.now graph.now) a) }
 {
     let mut class = Seq::new(alloc);
-    for b in numbers {
-        if are_together(flat, graph, a, *b) {
-            class.push(*b)?;
+    for b in a..flat.lines.len() as u32 {
+        if are_together(flat, graph, a, b) {
+            class.push(b)?;
         }
     }
     Ok(class)
@@ -127,25 +122,32 @@ pub fn any_flank(flat: &Flat, graph: &Graph, codelet: &[u32]) -> bool
     codelet.iter().any(|number| flank_at(flat, graph, *number))
 }
 
-/// Whether the class of a statement has a flank.
-pub fn in_state(flat: &Flat, graph: &Graph, numbers: &[u32], a: u32) -> bool
-    requires { numbers.now ≡ range_with_len 0 (length flat.now.lines) }
+// The numbers of the flanks.
+fn flank_numbers(alloc: Global, flat: &Flat, graph: &Graph) -> Result<Numbers, Memory>
+    ensures { IfOk result (λ f. f ≡ flanks_of (linked_by flat.now graph.now)) }
+{
+    let mut flanks = Seq::new(alloc);
+    for b in 0..flat.lines.len() as u32 {
+        if flank_at(flat, graph, b) {
+            flanks.push(b)?;
+        }
+    }
+    Ok(flanks)
+}
+
+// Whether the class of a statement has a flank.
+fn in_state(flat: &Flat, graph: &Graph, flanks: &[u32], a: u32) -> bool
+    requires { flanks.now ≡ flanks_of (linked_by flat.now graph.now) }
     ensures { result ≡ is_stateful (linked_by flat.now graph.now) a }
 {
-    any_flank_beside(flat, graph, numbers, a)
+    any_beside(flat, graph, flanks, a)
 }
 
-// Whether a number is that of a flank, and together with a statement.
-fn is_flank_beside(flat: &Flat, graph: &Graph, a: u32, b: u32) -> bool
-    ensures { result ≡ (is_so (linked_by flat.now graph.now) is_flank b && together (linked_by flat.now graph.now) a b) }
+// Whether one of the numbers is together with a statement.
+fn any_beside(flat: &Flat, graph: &Graph, numbers: &[u32], a: u32) -> bool
+    ensures { result ≡ list_any (together (linked_by flat.now graph.now) a) numbers.now }
 {
-    flank_at(flat, graph, b) && are_together(flat, graph, a, b)
-}
-
-fn any_flank_beside(flat: &Flat, graph: &Graph, numbers: &[u32], a: u32) -> bool
-    ensures { result ≡ list_any (λ b. is_so (linked_by flat.now graph.now) is_flank b && together (linked_by flat.now graph.now) a b) numbers.now }
-{
-    numbers.iter().any(|b| is_flank_beside(flat, graph, a, *b))
+    numbers.iter().any(|b| are_together(flat, graph, a, *b))
 }
 
 /// Whether an operand is a value.
@@ -243,12 +245,13 @@ fn any_store_beside(flat: &Flat, graph: &Graph, numbers: &[u32], a: u32, value: 
 }
 
 // Whether a statement makes an inner value.
-fn is_within(flat: &Flat, graph: &Graph, numbers: &[u32], a: u32) -> bool
+fn is_within(flat: &Flat, graph: &Graph, numbers: &[u32], flanks: &[u32], a: u32) -> bool
     requires numbers { numbers.now ≡ range_with_len 0 (length flat.now.lines) }
+    requires flanks { flanks.now ≡ flanks_of (linked_by flat.now graph.now) }
     requires small { a < 1024 }
     ensures { result ≡ is_inner (linked_by flat.now graph.now) a }
 {
-    in_state(flat, graph, numbers, a)
+    in_state(flat, graph, flanks, a)
         && (!flank_at(flat, graph, a) && !is_stored(flat, graph, numbers, a))
 }
 
@@ -285,12 +288,20 @@ fn any_use(flat: &Flat, graph: &Graph, statements: &[u32], value: u32) -> bool
 }
 
 // Whether a statement gets a twin, where later ones have theirs.
-fn needs_twin(flat: &Flat, graph: &Graph, numbers: &[u32], a: u32, later: &[u32]) -> bool
+fn needs_twin(
+    flat: &Flat,
+    graph: &Graph,
+    numbers: &[u32],
+    flanks: &[u32],
+    a: u32,
+    later: &[u32],
+) -> bool
     requires numbers { numbers.now ≡ range_with_len 0 (length flat.now.lines) }
+    requires flanks { flanks.now ≡ flanks_of (linked_by flat.now graph.now) }
     requires small { a < 1024 }
     ensures { result ≡ (is_inner (linked_by flat.now graph.now) a && (is_used_outside (linked_by flat.now graph.now) a || list_any (is_so (linked_by flat.now graph.now) (uses_value (length flat.now.fields + a))) later.now)) }
 {
-    is_within(flat, graph, numbers, a)
+    is_within(flat, graph, numbers, flanks, a)
         && (is_asked(flat, graph, numbers, a) || any_use(flat, graph, later, value_of(flat, a)))
 }
 
@@ -305,10 +316,11 @@ pub fn find_twins(
     ensures { IfOk result (λ v. v.items ≡ twins_of (linked_by flat.now graph.now)) }
 {
     let count = flat.lines.len();
+    let flanks = flank_numbers(alloc, flat, graph)?;
     let mut twins = Vec::new(alloc);
     for k in 0..count {
         let a = (count - 1 - k) as u32;
-        if needs_twin(flat, graph, numbers, a, twins.as_slice()) {
+        if needs_twin(flat, graph, numbers, flanks.as_slice(), a, twins.as_slice()) {
             add_first(&mut twins, a)?;
         }
     }

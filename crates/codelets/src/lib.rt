@@ -8,12 +8,13 @@ mod held;
 pub mod laws;
 mod leveling;
 mod listing;
-mod marks;
 mod operands;
+mod owners;
 mod pieces;
 mod places;
 mod shown;
 mod table;
+mod used;
 
 pub use answer::{Codelets, condense};
 pub use codelet::{Codelet, Kind, Slot, SlotList};

@@ -8,11 +8,14 @@ ghost use Rattle.codelets.specs.ByRows.{cut_by, linked_by};
 ghost use Rattle.codelets.specs.Held.{held};
 ghost use Rattle.codelets.specs.Linked.{twins_of};
 ghost use Rattle.codelets.specs.Cut.{lines_by_number};
+ghost use Rattle.codelets.specs.Lists.{AreApart};
+ghost use Rattle.codelets.specs.Used.{AreOwners};
 
 use crate::codelet::{Codelet, Kind};
 use crate::groups::any_flank;
 use crate::held::held_list;
 use crate::leveling::copied;
+use crate::owners::{Owners, owners_of};
 use crate::pieces::{Pieces, used_places};
 use crate::places::slots;
 use crate::table::Table;
@@ -31,15 +34,16 @@ fn used_list(
     graph: &Graph,
     table: &Table,
     order: &Pieces,
+    owners: &Owners,
     c: &[u32],
 ) -> Result<Numbers, Memory>
     requires table { table.now ≡ lines_by_number (cut_by flat.now graph.now) }
     requires order { order.now ≡ in_order (cut_by flat.now graph.now) }
-    requires small { All (λ d. All (λ a. a < 1024) d) order.now }
+    requires owners { AreOwners order.now owners.now }
     requires few { length order.now < 4294967296 }
     ensures { IfOk result (λ ks. ks ≡ used (cut_by flat.now graph.now) c.now) }
 {
-    used_places(alloc, flat, graph, table, order, c)
+    used_places(alloc, flat, graph, table, order, owners, c)
 }
 
 // The least number of a codelet.
@@ -69,6 +73,7 @@ fn codelet(
     table: &Table,
     pieces: &Pieces,
     order: &Pieces,
+    owners: &Owners,
     values: &[u32],
     level: u32,
     c: &[u32],
@@ -77,7 +82,7 @@ fn codelet(
     requires table { table.now ≡ lines_by_number (cut_by flat.now graph.now) }
     requires pieces { pieces.now ≡ (cut_by flat.now graph.now).all }
     requires order { order.now ≡ in_order (cut_by flat.now graph.now) }
-    requires small { All (λ d. All (λ a. a < 1024) d) order.now }
+    requires owners { AreOwners order.now owners.now }
     requires values { values.now ≡ holders (cut_by flat.now graph.now) }
     requires few { length values.now < 4294967296 }
     requires few_codelets { length order.now < 4294967296 }
@@ -85,7 +90,7 @@ fn codelet(
     ensures { IfOk result (λ r. r ≡ codelet_of (cut_by flat.now graph.now) c.now) }
 {
     let lines = copied(alloc, c)?;
-    let uses = used_list(alloc, flat, graph, table, order, c)?;
+    let uses = used_list(alloc, flat, graph, table, order, owners, c)?;
     let list = held_list(alloc, flat, graph, twins, table, pieces, c)?;
     let slots = slots(alloc, flat, graph, values, list.as_slice())?;
     Ok(Codelet {
@@ -118,9 +123,11 @@ pub fn codelet_list(
     requires values { values.now ≡ holders (cut_by flat.now graph.now) }
     requires few { length values.now < 4294967296 }
     requires few_codelets { length order.now < 4294967296 }
+    requires apart { AreApart order.now }
     requires levels { levels.now ≡ map (its_level (cut_by flat.now graph.now)) order.now }
     ensures { IfOk result (λ cs. cs ≡ codelets (cut_by flat.now graph.now)) }
 {
+    let owners = owners_of(order);
     let mut list = Seq::new(alloc);
     for k in 0..order.len() {
         let level = level_at(flat, graph, order, levels, k);
@@ -132,6 +139,7 @@ pub fn codelet_list(
             table,
             pieces,
             order,
+            &owners,
             values,
             level,
             order.get(k).as_slice(),

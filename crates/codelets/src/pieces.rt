@@ -3,12 +3,13 @@ ghost use Rattle.std.specs.List.{All, filter, list_any, range_with_len};
 ghost use Rattle.codelets.specs.Cut.{line_uses, lines_by_number, used_in, uses_codelet};
 ghost use Rattle.codelets.specs.ByRows.{cut_by, linked_by, use_lists};
 ghost use Rattle.codelets.specs.Linked.{twins_of};
-ghost use Rattle.codelets.specs.Lists.{meet};
-ghost use Rattle.codelets.specs.Marks.{AreMarks};
+ghost use Rattle.codelets.specs.Lists.{AreApart, meet};
+ghost use Rattle.codelets.specs.Used.{AreOwners, AreUsed};
 
 use crate::groups::{class_with, is_in, is_least};
-use crate::marks::{Marks, any_marked, used_marks};
+use crate::owners::{Owners, next_place, owners_of};
 use crate::table::Table;
+use crate::used::used_numbers;
 use dep_graph::Graph;
 use dom_flat::Flat;
 use dom_words::{Memory, Numbers, Seq};
@@ -41,7 +42,7 @@ pub fn by_number(
     let mut pieces = Seq::new(alloc);
     for a in numbers {
         if is_least(flat, graph, numbers, *a) {
-            let class = class_with(alloc, flat, graph, numbers, *a)?;
+            let class = class_with(alloc, flat, graph, *a)?;
             pieces.push(class)?;
         }
     }
@@ -60,35 +61,40 @@ pub fn meets(c: &[u32], d: &[u32]) -> bool
     c.iter().any(|number| is_in(d, *number))
 }
 
-// Whether a codelet uses another, where the values that it uses are marked.
-fn uses_piece(flat: &Flat, graph: &Graph, marks: &Marks, c: &[u32], d: &[u32]) -> bool
-    requires marks { AreMarks (length flat.now.fields) (λ v. list_any (line_uses (cut_by flat.now graph.now) v) c.now) marks.now }
-    requires small { All (λ a. a < 1024) d.now }
+// Whether a codelet uses another, where the numbers that it uses are given.
+fn uses_piece(flat: &Flat, graph: &Graph, used: &[u32], c: &[u32], d: &[u32]) -> bool
+    requires { AreUsed (length flat.now.fields) (λ v. list_any (line_uses (cut_by flat.now graph.now) v) c.now) used.now }
     ensures { result ≡ uses_codelet (cut_by flat.now graph.now) c.now d.now }
 {
-    any_marked(marks, d) && !meets(c, d)
+    meets(d, used) && !meets(c, d)
 }
 
-/// The places of the codelets that a codelet uses in a list of codelets.
+/// The places of the codelets that a codelet uses in a list of codelets. Goes from each place that has a used number to the
+/// next one.
 pub fn used_places(
     alloc: Global,
     flat: &Flat,
     graph: &Graph,
     table: &Table,
     list: &Pieces,
+    owners: &Owners,
     c: &[u32],
 ) -> Result<Numbers, Memory>
     requires table { table.now ≡ lines_by_number (cut_by flat.now graph.now) }
-    requires small { All (λ d. All (λ a. a < 1024) d) list.now }
     requires few { length list.now < 4294967296 }
+    requires owners { AreOwners list.now owners.now }
     ensures { IfOk result (λ ks. ks ≡ used_in (cut_by flat.now graph.now) list.now c.now) }
 {
-    let marks = used_marks(flat, graph, table, c);
+    let end = list.len() as u32;
+    let used = used_numbers(alloc, flat, graph, table, c)?;
     let mut places = Seq::new(alloc);
-    for k in 0..list.len() {
-        if uses_piece(flat, graph, &marks, c, list.get(k).as_slice()) {
-            places.push(k as u32)?;
+    let mut place = next_place(owners, used.as_slice(), 0, end);
+    while place < end {
+        let d = list.get(place as usize).as_slice();
+        if uses_piece(flat, graph, used.as_slice(), c, d) {
+            places.push(place)?;
         }
+        place = next_place(owners, used.as_slice(), place + 1, end);
     }
     Ok(places)
 }
@@ -104,12 +110,15 @@ pub fn places_used(
     requires table { table.now ≡ lines_by_number (cut_by flat.now graph.now) }
     requires small { All (λ d. All (λ a. a < 1024) d) pieces.now }
     requires few { length pieces.now < 4294967296 }
+    requires apart { AreApart pieces.now }
     requires pieces { pieces.now ≡ (cut_by flat.now graph.now).all }
     ensures { IfOk result (λ lists. lists ≡ use_lists (cut_by flat.now graph.now)) }
 {
+    let owners = owners_of(pieces);
     let mut lists = Seq::new(alloc);
     for k in 0..pieces.len() {
-        let places = used_places(alloc, flat, graph, table, pieces, pieces.get(k).as_slice())?;
+        let c = pieces.get(k).as_slice();
+        let places = used_places(alloc, flat, graph, table, pieces, &owners, c)?;
         lists.push(places)?;
     }
     Ok(lists)

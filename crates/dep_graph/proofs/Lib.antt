@@ -2,4 +2,3 @@ pub mod Warshall
 pub mod Joined
 pub mod Marked
 pub mod Through
-pub mod Earlier

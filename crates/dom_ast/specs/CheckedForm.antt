@@ -6,9 +6,11 @@ use Rattle.dom_ast.specs.declared.program.Head.{Head}
 use Rattle.dom_ast.specs.declared.program.Head.TheVariants as head
 use Rattle.dom_ast.specs.Resolved.{CheckedForm, bodies_form}
 
+-- a resolved program as plain data
 abbrev pub checked_form : Checked → CheckedForm
 checked_form c = record { fields = c.fields; arrays = c.arrays; bodies = bodies_form c.bodies }
 
+-- a head is the struct
 abbrev pub is_struct : Head → Bool
 is_struct (head.Define p name w) = false
 is_struct (head.Struct p tag fields) = true
@@ -18,6 +20,7 @@ abbrev pub is_some_field : List (ℕ × List ℕ) → Bool
 is_some_field [] = false
 is_some_field (f ∷ fields) = true
 
+-- a struct has a field; of other heads nothing is asked
 abbrev pub has_field : Head → Bool
 has_field (head.Define p name w) = true
 has_field (head.Struct p tag fields) = is_some_field fields

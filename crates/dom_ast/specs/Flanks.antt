@@ -1,4 +1,5 @@
--- Lists of steps between read and write flanks.
+-- Lists of steps between flanks. A read flank is the one place of a list where the word of an array is read, and a write
+-- flank the one where it is written back.
 use Rattle.std.specs.Prelude.{ℕ, suc, Bool, true, not, ◌&&◌, nat_eq, nat_lt, List, [], ◌∷◌, fold, map, sum, slice_index, slice_set}
 use Rattle.std.specs.List.{list_all, list_any}
 use Rattle.dom_words.specs.State.{Hash, Outcome, fetched, stored}
@@ -12,11 +13,13 @@ use Rattle.dom_ast.specs.Meaning.{Names, place_word, put, value}
 use Rattle.dom_ast.specs.PartSize.{part_nodes}
 use Rattle.dom_ast.specs.Straight.{StepForm, step_form, step_visit}
 
+-- a read flank of an array at an index, a step, or a write flank of an array at an index
 pub data FlankForm : Type 0 where
   read : ℕ → Place → FlankForm
   set : StepForm → FlankForm
   write : ℕ → Place → FlankForm
 
+-- such an item as plain data
 abbrev pub flank_form : FlankItem → FlankForm
 flank_form (item.Read a i) = read a i
 flank_form (item.Set s) = set (step_form s)
@@ -28,6 +31,7 @@ flank_within r (read a i) = nat_lt a r.arrays && place_within r i
 flank_within r (set s) = visit_within r (step_visit s)
 flank_within r (write a i) = nat_lt a r.arrays && place_within r i
 
+-- the same of all items
 abbrev pub flanks_within : Ranges → List FlankForm → Bool
 flanks_within r items = list_all (flank_within r) items
 
@@ -35,9 +39,11 @@ flanks_within r items = list_all (flank_within r) items
 abbrev pub is_read : List Mention → ℕ → Bool
 is_read reads a = list_any (λ m. nat_eq m.array a) reads
 
+-- the array has a read flank with this index among these
 abbrev pub is_read_at : List Mention → ℕ → Place → Bool
 is_read_at reads a i = list_any (λ m. nat_eq m.array a && is_place m.index i) reads
 
+-- the array has a write flank among these
 abbrev pub is_written : List ℕ → ℕ → Bool
 is_written writes a = list_any (nat_eq a) writes
 
@@ -59,6 +65,7 @@ pub record FlankEnv : Type 0 where
   pub words : ℕ → ℕ
   pub found : ℕ → ℕ
 
+-- what names stand for: an array is the word that steps work on, whatever the index, and there are no made values
 abbrev pub flank_names : FlankEnv → Names
 flank_names env = record { field = slice_index env.packet; state = λ a i. env.words a; fresh = env.fresh; made = λ k. 0 }
 
@@ -92,12 +99,15 @@ flanked hash env (write a i) =
       found = env.found;
     }
 
+-- the items one after another
 abbrev pub all_flanked : Hash → FlankEnv → List FlankForm → FlankEnv
 all_flanked hash env items = fold (flanked hash) env items
 
+-- a packet and a state as they enter; all else is 0
 abbrev pub flank_entering : List ℕ → List (List ℕ) → FlankEnv
 flank_entering packet arrays = record { packet = packet; arrays = arrays; fresh = λ k. 0; words = λ k. 0; found = λ k. 0 }
 
+-- the packet and the state at the end
 abbrev pub flank_outcome_of : FlankEnv → Outcome
 flank_outcome_of env = record { packet = env.packet; arrays = env.arrays }
 
@@ -105,11 +115,12 @@ flank_outcome_of env = record { packet = env.packet; arrays = env.arrays }
 abbrev pub flanked_outcome : Hash → List FlankForm → List ℕ → List (List ℕ) → Outcome
 flanked_outcome hash items packet arrays = flank_outcome_of (all_flanked hash (flank_entering packet arrays) items)
 
--- the items and the expression nodes in them
+-- an item and the expression nodes in it
 abbrev pub flank_nodes : FlankForm → ℕ
 flank_nodes (read a i) = 1
 flank_nodes (set s) = suc (part_nodes s.value)
 flank_nodes (write a i) = 1
 
+-- the items and the expression nodes in them
 abbrev pub flanks_nodes : List FlankForm → ℕ
 flanks_nodes items = sum (map flank_nodes items)

@@ -14,7 +14,8 @@ use Rattle.dom_ast.specs.declared.program.Head.{Head}
 use Rattle.dom_ast.specs.declared.program.Transaction.{Transaction}
 use Rattle.dom_ast.specs.declared.program.Program.{Program}
 
--- an expression: offsets of first tokens, words and names as in the tree
+-- An expression as in the tree. An offset stands before what it is the offset of. A chain and a conditional have none of
+-- their own: they begin where their first part does.
 mutual
   pub data ExprForm : Type 0 where
     number : ℕ → ℕ → ExprForm
@@ -34,11 +35,13 @@ mutual
     no_ops : OpForms
     op : BinOp → ExprForm → OpForms → OpForms
 
+-- what an assignment writes; its offset is that of the assignment
 pub data TargetForm : Type 0 where
   to_word : List ℕ → TargetForm
   to_field : List ℕ → ℕ → List ℕ → TargetForm
   to_index : List ℕ → ExprForm → TargetForm
 
+-- an assignment with its offset, or an `if` with its condition and its two branches
 mutual
   pub data StmtForm : Type 0 where
     assign : ℕ → TargetForm → ExprForm → StmtForm
@@ -48,6 +51,8 @@ mutual
     no_stmts : StmtForms
     stmt : StmtForm → StmtForms → StmtForms
 
+-- a transaction: the name of the struct in its head, which is its tag, and the name of its parameter, each with its offset;
+-- its guard, if it has one; and its body
 pub record TransactionForm : Type 0 where
   pub tag_at : ℕ
   pub tag : List ℕ
@@ -61,6 +66,7 @@ pub record ProgramForm : Type 0 where
   pub heads : List Head
   pub transactions : List TransactionForm
 
+-- lists of trees, in the form that they have inside of trees
 abbrev pub exprs_of : List ExprForm → ExprForms
 exprs_of [] = no_exprs
 exprs_of (e ∷ es) = expr e (exprs_of es)
@@ -84,6 +90,7 @@ expr_step (Expr-F.Un at o arg) = un at o arg.value
 expr_step (Expr-F.Chain first rest) = chain first.value (ops_of rest)
 expr_step (Expr-F.Cond test a b) = choice test.value a.value b.value
 
+-- The form of an expression, of expressions, of operators with their operands, and so on up to that of a program.
 abbrev pub form : Expr → ExprForm
 form = fold-Expr ExprForm expr_step
 

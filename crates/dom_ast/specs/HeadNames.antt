@@ -9,5 +9,6 @@ head_names (head.Define p name w) = []
 head_names (head.Struct p tag fields) = map (λ f. f.1) fields
 head_names (head.Global p name l i) = name ∷ []
 
+-- those that all heads declare, in order
 abbrev pub declared_names : List Head → List (List ℕ)
 declared_names heads = flat_map head_names heads

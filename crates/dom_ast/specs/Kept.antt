@@ -18,6 +18,7 @@ condition p = record { target = None; value = p }
 abbrev pub assignment : Goal → PartForm → Visit
 assignment g p = record { target = Some g; value = p }
 
+-- the visits of statements: at an `if` its condition is visited first, and then its two branches
 abbrev mutual
   pub act_visits : ActForm → List Visit
   act_visits (assign g p) = assignment g p ∷ []
@@ -27,10 +28,12 @@ abbrev mutual
   acts_visits no_acts = []
   acts_visits (act a rest) = act_visits a ++ acts_visits rest
 
+-- the visit of a guard, if there is one
 abbrev pub guard_visits : Option PartForm → List Visit
 guard_visits None = []
 guard_visits (Some p) = condition p ∷ []
 
+-- the visits of transactions, each guard before its body
 abbrev pub bodies_visits : List BodyForm → List Visit
 bodies_visits bodies = flat_map (λ body. guard_visits body.guard ++ acts_visits body.acts) bodies
 
@@ -42,6 +45,7 @@ pub record Mention : Type 0 where
 abbrev pub mention : ℕ → Place → Mention
 mention a i = record { array = a; index = i }
 
+-- the mentions of arrays in an expression, from left to right
 abbrev mutual
   pub part_mentions : PartForm → List Mention
   part_mentions (number w) = []
@@ -62,11 +66,13 @@ abbrev mutual
   ops_mentions no_ops = []
   ops_mentions (op o p os) = part_mentions p ++ ops_mentions os
 
+-- the mention that a target is, where it is the word of an array
 abbrev pub goal_mentions : Goal → List Mention
 goal_mentions (goal.Field f) = []
 goal_mentions (goal.State a i) = mention a i ∷ []
 goal_mentions (goal.Fresh k) = []
 
+-- the same where there may be no target
 abbrev pub target_mentions : Option Goal → List Mention
 target_mentions None = []
 target_mentions (Some g) = goal_mentions g
@@ -75,9 +81,11 @@ target_mentions (Some g) = goal_mentions g
 abbrev pub visit_mentions : Visit → List Mention
 visit_mentions v = part_mentions v.value ++ target_mentions v.target
 
+-- the mentions of all visits, in order
 abbrev pub mentions_in : List Visit → List Mention
 mentions_in visits = flat_map visit_mentions visits
 
+-- two indexes are the same
 abbrev pub is_place : Place → Place → Bool
 is_place (place.Word w) (place.Word v) = nat_eq w v
 is_place (place.Word w) (place.Field f) = false
@@ -115,10 +123,12 @@ pub record Ranges : Type 0 where
   pub fresh : ℕ
   pub is_made : ℕ → Bool
 
+-- a field that is an index is in range
 abbrev pub place_within : Ranges → Place → Bool
 place_within r (place.Word w) = true
 place_within r (place.Field f) = nat_lt f r.fields
 
+-- how many expressions there are
 abbrev pub count_of : PartForms → ℕ
 count_of no_parts = 0
 count_of (part p ps) = suc (count_of ps)
@@ -144,18 +154,22 @@ abbrev mutual
   ops_within r no_ops = true
   ops_within r (op o p os) = part_within r p && ops_within r os
 
+-- the numbers in a target are in range
 abbrev pub goal_within : Ranges → Goal → Bool
 goal_within r (goal.Field f) = nat_lt f r.fields
 goal_within r (goal.State a i) = nat_lt a r.arrays && place_within r i
 goal_within r (goal.Fresh k) = nat_lt k r.fresh
 
+-- the same where there may be no target
 abbrev pub target_within : Ranges → Option Goal → Bool
 target_within r None = true
 target_within r (Some g) = goal_within r g
 
+-- the numbers in a visit are in range
 abbrev pub visit_within : Ranges → Visit → Bool
 visit_within r v = part_within r v.value && target_within r v.target
 
+-- the numbers in all visits are in range
 abbrev pub are_within : Ranges → List Visit → Bool
 are_within r visits = list_all (visit_within r) visits
 
@@ -167,6 +181,7 @@ abbrev pub is_empty : List Mention → Bool
 is_empty [] = true
 is_empty (m ∷ ms) = false
 
+-- a guard, if there is one, mentions no array
 abbrev pub is_guard_free : Option PartForm → Bool
 is_guard_free None = true
 is_guard_free (Some p) = is_empty (part_mentions p)

@@ -9,7 +9,8 @@ use Rattle.dom_ast.specs.declared.part.Goal.{Goal}
 use Rattle.dom_ast.specs.declared.part.Goal.TheVariants as goal
 use Rattle.dom_ast.specs.Resolved.{PartForm, number, field, state, fresh, made, call, un, chain, choice, PartForms, no_parts, part, OpForms, no_ops, op, ActForm, assign, branch, ActForms, no_acts, act, BodyForm, CheckedForm}
 
--- what the names in an expression stand for
+-- What the names in an expression stand for: the fields, the arrays at an index, the fresh names and the made values. The
+-- last two come with the passes of the compiler.
 pub record Names : Type 0 where
   pub field : ℕ → ℕ
   pub state : ℕ → Place → ℕ
@@ -43,11 +44,12 @@ pub record Env : Type 0 where
   pub arrays : List (List ℕ)
   pub fresh : ℕ → ℕ
 
+-- the index itself: a word, or what a field of the packet has
 abbrev pub place_word : Place → List ℕ → ℕ
 place_word (place.Word w) packet = w
 place_word (place.Field f) packet = slice_index packet f
 
--- the names as they stand in a moment
+-- the names as they stand in a moment, when there are no made values
 abbrev pub names_in : Env → Names
 names_in env = record {
   field = slice_index env.packet;
@@ -56,6 +58,7 @@ names_in env = record {
   made = λ k. 0;
 }
 
+-- the word of an expression in a moment
 abbrev pub value_in : Hash → Env → PartForm → ℕ
 value_in hash env p = value hash (names_in env) p
 
@@ -80,11 +83,12 @@ abbrev mutual
   all_acted hash no_acts env = env
   all_acted hash (act a rest) env = all_acted hash rest (acted hash a env)
 
--- a transaction is chosen where it has no guard, or where its guard is not 0
+-- a guard holds where it is not 0, and so does one that is not there
 abbrev pub is_guard_true : Hash → Env → Option PartForm → Bool
 is_guard_true hash env None = true
 is_guard_true hash env (Some p) = is_true (value_in hash env p)
 
+-- a transaction is chosen where its guard holds
 abbrev pub is_chosen : Hash → Env → BodyForm → Bool
 is_chosen hash env body = is_guard_true hash env body.guard
 
@@ -92,6 +96,7 @@ is_chosen hash env body = is_guard_true hash env body.guard
 abbrev pub entering : List ℕ → List (List ℕ) → Env
 entering packet arrays = record { packet = packet; arrays = arrays; fresh = λ k. 0 }
 
+-- the packet and the state at the end
 abbrev pub outcome_of : Env → Outcome
 outcome_of env = record { packet = env.packet; arrays = env.arrays }
 
@@ -103,12 +108,13 @@ all_chosen hash bodies env = fold (λ now body. all_acted hash body.acts now) en
 abbrev pub one : Hash → List BodyForm → List ℕ → List (List ℕ) → Outcome
 one hash bodies packet arrays = outcome_of (all_chosen hash bodies (entering packet arrays))
 
--- one packet after another, from a state: the packets that come out, and the state at the end
+-- one packet after another, from a state: the packets that come out
 abbrev pub serial_packets : Hash → List BodyForm → List (List ℕ) → List (List ℕ) → List (List ℕ)
 serial_packets hash bodies arrays [] = []
 serial_packets hash bodies arrays (p ∷ ps) =
     (one hash bodies p arrays).packet ∷ serial_packets hash bodies (one hash bodies p arrays).arrays ps
 
+-- the state behind the last of them
 abbrev pub serial_arrays : Hash → List BodyForm → List (List ℕ) → List (List ℕ) → List (List ℕ)
 serial_arrays hash bodies arrays [] = arrays
 serial_arrays hash bodies arrays (p ∷ ps) = serial_arrays hash bodies (one hash bodies p arrays).arrays ps

@@ -9,11 +9,13 @@ use Rattle.dom_ast.specs.Kept.{Ranges, part_within}
 use Rattle.dom_ast.specs.Meaning.{Names, value}
 use Rattle.dom_ast.specs.PartSize.{part_nodes}
 
+-- an item: the word of an array at an index, a value, or a word that is written to an array at an index
 pub data NamedForm : Type 0 where
   read : ℕ → PartForm → NamedForm
   make : PartForm → NamedForm
   write : ℕ → PartForm → PartForm → NamedForm
 
+-- such an item as plain data
 abbrev pub named_form : NamedItem → NamedForm
 named_form (item.Read a i) = read a (form i)
 named_form (item.Make p) = make (form p)
@@ -31,6 +33,7 @@ is_operand (un o p) = false
 is_operand (chain p os) = false
 is_operand (choice c p q) = false
 
+-- the expression is this number
 abbrev pub is_number : ℕ → PartForm → Bool
 is_number w (number v) = nat_eq w v
 is_number w (field f) = false
@@ -42,6 +45,7 @@ is_number w (un o p) = false
 is_number w (chain p os) = false
 is_number w (choice c p q) = false
 
+-- the expression is this field
 abbrev pub is_field : ℕ → PartForm → Bool
 is_field f (field g) = nat_eq f g
 is_field f (number v) = false
@@ -53,6 +57,7 @@ is_field f (un o p) = false
 is_field f (chain p os) = false
 is_field f (choice c p q) = false
 
+-- the expression is this made value
 abbrev pub is_value : ℕ → PartForm → Bool
 is_value k (made j) = nat_eq k j
 is_value k (number v) = false
@@ -82,6 +87,7 @@ makes (read a i) = true
 makes (make p) = true
 makes (write a i p) = false
 
+-- which of the items make a value, in order
 abbrev pub makes_of : List NamedForm → List Bool
 makes_of items = map makes items
 
@@ -90,6 +96,7 @@ abbrev pub named_ranges : ℕ → List Bool → Ranges
 named_ranges fields made_so_far =
     record { fields = fields; arrays = 0; fresh = 0; is_made = λ k. slice_index_or made_so_far k false }
 
+-- an operand, with a number in range
 abbrev pub operand_within : ℕ → List Bool → PartForm → Bool
 operand_within fields made_so_far p = is_operand p && part_within (named_ranges fields made_so_far) p
 
@@ -98,12 +105,15 @@ pub record ReadForm : Type 0 where
   pub array : ℕ
   pub index : PartForm
 
+-- the array is read among these
 abbrev pub is_read : List ReadForm → ℕ → Bool
 is_read reads a = list_any (λ r. nat_eq r.array a) reads
 
+-- the array is read at this index among these
 abbrev pub is_read_at : List ReadForm → ℕ → PartForm → Bool
 is_read_at reads a i = list_any (λ r. nat_eq r.array a && is_same_operand r.index i) reads
 
+-- the array is written among these
 abbrev pub is_written : List ℕ → ℕ → Bool
 is_written writes a = list_any (nat_eq a) writes
 
@@ -126,6 +136,7 @@ are_named fields arrays before reads writes (write a i p ∷ items) =
     && (not (is_written writes a)
     && are_named fields arrays (before ++ false ∷ []) reads (a ∷ writes) items))))
 
+-- each output is an operand with a number in range
 abbrev pub are_outputs : ℕ → List Bool → List PartForm → Bool
 are_outputs fields made_so_far outputs = list_all (operand_within fields made_so_far) outputs
 
@@ -134,9 +145,11 @@ pub record NamedEnv : Type 0 where
   pub arrays : List (List ℕ)
   pub made : List ℕ
 
+-- what names stand for: the entered fields and the values so far; there are no arrays and no fresh names
 abbrev pub named_names : List ℕ → List ℕ → Names
 named_names packet values = record { field = slice_index packet; state = λ a i. 0; fresh = λ k. 0; made = slice_index values }
 
+-- the word of an expression, for an entered packet and the values so far
 abbrev pub named_value : Hash → List ℕ → NamedEnv → PartForm → ℕ
 named_value hash packet env p = value hash (named_names packet env.made) p
 
@@ -148,9 +161,11 @@ named_step hash packet env (make p) = record { arrays = env.arrays; made = env.m
 named_step hash packet env (write a i p) =
     record { arrays = stored env.arrays a (named_value hash packet env i) (named_value hash packet env p); made = env.made ++ 0 ∷ [] }
 
+-- the items one after another
 abbrev pub all_named : Hash → List ℕ → NamedEnv → List NamedForm → NamedEnv
 all_named hash packet env items = fold (named_step hash packet) env items
 
+-- the words of the outputs, and the state at the end
 abbrev pub named_end : Hash → List ℕ → List PartForm → NamedEnv → Outcome
 named_end hash packet outputs env = record { packet = map (named_value hash packet env) outputs; arrays = env.arrays }
 
@@ -159,11 +174,12 @@ abbrev pub named_outcome : Hash → List NamedForm → List PartForm → List �
 named_outcome hash items outputs packet arrays =
     named_end hash packet outputs (all_named hash packet (record { arrays = arrays; made = [] }) items)
 
--- the items and the expression nodes in them and in the outputs
+-- an item and the expression nodes in it
 abbrev pub item_nodes : NamedForm → ℕ
 item_nodes (read a i) = suc (part_nodes i)
 item_nodes (make p) = suc (part_nodes p)
 item_nodes (write a i p) = suc (part_nodes i + part_nodes p)
 
+-- the items and the expression nodes in them and in the outputs
 abbrev pub named_nodes : List NamedForm → List PartForm → ℕ
 named_nodes items outputs = sum (map item_nodes items) + sum (map part_nodes outputs)

@@ -34,18 +34,20 @@ abbrev mutual
   acts_nodes no_acts = 0
   acts_nodes (act a rest) = act_nodes a + acts_nodes rest
 
+-- the expression nodes of a guard, if there is one
 abbrev pub guard_nodes : Option PartForm → ℕ
 guard_nodes None = 0
 guard_nodes (Some p) = part_nodes p
 
+-- the statements and expression nodes of a transaction
 abbrev pub body_nodes : BodyForm → ℕ
 body_nodes body = guard_nodes body.guard + acts_nodes body.acts
 
--- the statements and expression nodes of guards and bodies
+-- the same of all transactions
 abbrev pub bodies_nodes : List BodyForm → ℕ
 bodies_nodes bodies = sum (map body_nodes bodies)
 
--- whether `if`s are nested at most d deep
+-- whether the `if`s in statements are nested at most d deep
 abbrev mutual
   pub act_nested : ℕ → ActForm → Bool
   act_nested d (assign g p) = true
@@ -62,5 +64,6 @@ guarded_nested d None acts = acts_nested d acts
 guarded_nested zero (Some p) acts = false
 guarded_nested (suc d) (Some p) acts = acts_nested d acts
 
+-- the same of all transactions
 abbrev pub bodies_nested : ℕ → List BodyForm → Bool
 bodies_nested d bodies = list_all (λ body. guarded_nested d body.guard body.acts) bodies

@@ -1,4 +1,5 @@
--- Resolved trees and the lists between the passes as plain data, without the places in memory where they are kept.
+-- Resolved trees and the lists between the passes as plain data, without the places in memory where they are kept. There an
+-- expression is called a part, a target a goal, a statement an act, and a transaction a body.
 use Rattle.std.specs.Prelude.{ℕ, List, [], ◌∷◌, map, Option, Some, None}
 use Rattle.dom_words.specs.declared.array.Array.{Array}
 use Rattle.dom_words.specs.declared.hash.HashName.{HashName}
@@ -13,7 +14,9 @@ use Rattle.dom_ast.specs.declared.checked.Act.{Act}
 use Rattle.dom_ast.specs.declared.checked.Act.TheFolds.{fold-Act}
 use Rattle.dom_ast.specs.declared.checked.Act.TheOpen.{Act-F}
 
--- an expression whose names are numbers
+-- An expression whose names are numbers: of a field, of an array with its index, of a fresh name, of a made value. Fresh
+-- names, each for the word of a condition, and made values, each of an item of a list with one name for each value, come
+-- with the passes of the compiler.
 mutual
   pub data PartForm : Type 0 where
     number : ℕ → PartForm
@@ -49,6 +52,7 @@ pub record BodyForm : Type 0 where
   pub guard : Option PartForm
   pub acts : ActForms
 
+-- lists of trees, in the form that they have inside of trees
 abbrev pub parts_of : List PartForm → PartForms
 parts_of [] = no_parts
 parts_of (p ∷ ps) = part p (parts_of ps)
@@ -73,6 +77,7 @@ part_step (Part-F.Un o arg) = un o arg.value
 part_step (Part-F.Chain first rest) = chain first.value (ops_of rest)
 part_step (Part-F.Cond test a b) = choice test.value a.value b.value
 
+-- The form of an expression, of expressions, of operators with their operands, and so on up to that of transactions.
 abbrev pub form : Part → PartForm
 form = fold-Part PartForm part_step
 
@@ -106,7 +111,7 @@ body_form body = record { guard = guard_form body.0; acts = act_forms body.1 }
 abbrev pub bodies_form : List (Option Part × List Act) → List BodyForm
 bodies_form bodies = map body_form bodies
 
--- a program whose names are numbers
+-- a program whose names are numbers: the names of its fields, its arrays, its transactions
 pub record CheckedForm : Type 0 where
   pub fields : List (List ℕ)
   pub arrays : List Array

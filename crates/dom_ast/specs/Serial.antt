@@ -1,4 +1,5 @@
--- What a serial run keeps, and what it does at each step.
+-- Where the words of a run stand, and when all numbers in a program are in range for it. Only proofs and contracts of
+-- private functions cite what follows `IsPlaceOf`.
 use Rattle.std.specs.Prelude.{ℕ, ◌<◌, Bool, true, ◌&&◌, Option, Some, None, List, [], ◌∷◌, fold, if◌then◌else◌, length, nat_lt, slice_get, IsSomeAnd}
 use Rattle.std.specs.List.{list_all}
 use Rattle.dom_words.specs.State.{Hash}
@@ -29,10 +30,12 @@ abbrev mutual
   acts_within r no_acts = true
   acts_within r (act a rest) = act_within r a && acts_within r rest
 
+-- every number in a guard is in range, if there is one
 abbrev pub guard_within : Ranges → Option PartForm → Bool
 guard_within r None = true
 guard_within r (Some p) = part_within r p
 
+-- every number in the transactions is in range
 abbrev pub bodies_within : Ranges → List BodyForm → Bool
 bodies_within r bodies = list_all (λ body. guard_within r body.guard && acts_within r body.acts) bodies
 

@@ -22,6 +22,7 @@ abbrev mutual
   ops_nodes no_ops = 0
   ops_nodes (op o e fs) = expr_nodes e + ops_nodes fs
 
+-- the expression nodes of a target: those of its index
 abbrev pub target_nodes : TargetForm → ℕ
 target_nodes (to_word n) = 0
 target_nodes (to_field n q f) = 0
@@ -37,18 +38,21 @@ abbrev mutual
   stmts_nodes no_stmts = 0
   stmts_nodes (stmt a ss) = stmt_nodes a + stmts_nodes ss
 
+-- the expression nodes of a guard, if there is one
 abbrev pub guard_nodes : Option ExprForm → ℕ
 guard_nodes None = 0
 guard_nodes (Some e) = expr_nodes e
 
+-- the statements and expression nodes of transactions
 abbrev pub transactions_nodes : List TransactionForm → ℕ
 transactions_nodes [] = 0
 transactions_nodes (t ∷ ts) = (guard_nodes t.guard + stmts_nodes t.body) + transactions_nodes ts
 
+-- the statements and expression nodes of a program
 abbrev pub program_nodes : ProgramForm → ℕ
 program_nodes p = transactions_nodes p.transactions
 
--- whether `if`s are nested at most d deep
+-- whether the `if`s in statements are nested at most d deep
 abbrev mutual
   pub stmt_nested : ℕ → StmtForm → Bool
   stmt_nested d (assign p t e) = true
@@ -65,9 +69,11 @@ guarded_nested d None ss = stmts_nested d ss
 guarded_nested zero (Some e) ss = false
 guarded_nested (suc d) (Some e) ss = stmts_nested d ss
 
+-- the same of all transactions
 abbrev pub transactions_nested : ℕ → List TransactionForm → Bool
 transactions_nested d [] = true
 transactions_nested d (t ∷ ts) = guarded_nested d t.guard t.body && transactions_nested d ts
 
+-- the same of a program
 abbrev pub program_nested : ℕ → ProgramForm → Bool
 program_nested d p = transactions_nested d p.transactions

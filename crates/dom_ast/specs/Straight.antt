@@ -1,4 +1,4 @@
--- Lists of steps without branches.
+-- Lists of steps without branches. A step gives a value to a target.
 use Rattle.std.specs.Prelude.{ℕ, suc, false, List, fold, map, sum}
 use Rattle.dom_words.specs.State.{Hash, Outcome}
 use Rattle.dom_ast.specs.declared.part.Goal.{Goal}
@@ -8,6 +8,7 @@ use Rattle.dom_ast.specs.Kept.{Ranges, Visit, assignment}
 use Rattle.dom_ast.specs.Meaning.{Env, assigned, entering, outcome_of, value_in}
 use Rattle.dom_ast.specs.PartSize.{part_nodes}
 
+-- a step as plain data
 pub record StepForm : Type 0 where
   pub target : Goal
   pub value : PartForm
@@ -15,10 +16,11 @@ pub record StepForm : Type 0 where
 abbrev pub step_form : Step → StepForm
 step_form s = record { target = s.target; value = form s.value }
 
--- what a walk comes to at a step
+-- the visit of a step: its value, and then its target
 abbrev pub step_visit : StepForm → Visit
 step_visit s = assignment s.target s.value
 
+-- the numbers that a list of steps may have; it has no made values
 abbrev pub straight_ranges : ℕ → ℕ → ℕ → Ranges
 straight_ranges fields arrays fresh = record { fields = fields; arrays = arrays; fresh = fresh; is_made = λ k. false }
 
@@ -26,6 +28,7 @@ straight_ranges fields arrays fresh = record { fields = fields; arrays = arrays;
 abbrev pub stepped : Hash → Env → StepForm → Env
 stepped hash env s = assigned s.target (value_in hash env s.value) env
 
+-- the steps one after another
 abbrev pub all_stepped : Hash → Env → List StepForm → Env
 all_stepped hash env steps = fold (stepped hash) env steps
 

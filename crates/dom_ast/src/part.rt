@@ -8,7 +8,8 @@ pub enum Place {
 }
 
 /// An expression whose names are numbers: fields and arrays count from 0 in the order of declaration. A scalar is an array
-/// of one word at the index `Word(0)`. Fresh names and made values come with the passes of the compiler.
+/// of one word at the index `Word(0)`. Fresh names, each for the word of a condition, and made values, each of an item of
+/// `Named`, come with the passes of the compiler.
 #[derive(Debug, Drop)]
 pub enum Part {
     Number(u32),
@@ -44,7 +45,7 @@ pub type PartList = Seq<Part>;
 /// Operators, each with the operand after it.
 pub type PartOps = Seq<(BinOp, Part)>;
 
-/// What an assignment writes.
+/// What an assignment writes, with numbers for names.
 #[derive(Clone, Copy, Debug, PartialEq, Eq)]
 pub enum Goal {
     Field(u32),

@@ -9,7 +9,8 @@ pub struct Program {
     pub transactions: TransactionList,
 }
 
-/// A transaction: the struct's name and the parameter's in its head, with the offset of each, its guard and its body.
+/// A transaction: the struct's name in its head, which is its tag, and the parameter's, with the offset of each, its guard
+/// and its body.
 #[derive(Debug, Drop)]
 pub struct Transaction {
     pub tag_at: u32,
@@ -20,7 +21,7 @@ pub struct Transaction {
     pub body: StmtList,
 }
 
-/// A definition, the struct, or a global. `at` is the offset of the declared name.
+/// A define, the struct, or a global. `at` is the offset of the declared name.
 #[derive(Debug, Drop)]
 pub enum Head {
     Define {

@@ -122,6 +122,20 @@ fn operand_at<'a>(rest: &'a PartOps, k: usize, words: &[u32], state: &State) -> 
     rest.get(k)
 }
 
+// The word of an expression; that of a number or a field without another call.
+#[inline(always)]
+#[cycle(eval)]
+fn word_of<H: HashUnits>(part: &Part, words: &[u32], state: &State, hash: &H) -> u32
+    requires { part_within (ranges_over words.now state.now) (form part.now) ≡ true }
+    ensures { result ≡ value_in (H.meaning hash.now) (entering words.now state.now) (form part.now) }
+{
+    match part {
+        Part::Number(word) => *word,
+        Part::Field(field) => words[*field as usize],
+        _ => eval(part, words, state, hash),
+    }
+}
+
 // The word of an expression on a packet and a state.
 #[cycle(eval)]
 fn eval<H: HashUnits>(part: &Part, words: &[u32], state: &State, hash: &H) -> u32
@@ -140,16 +154,16 @@ fn eval<H: HashUnits>(part: &Part, words: &[u32], state: &State, hash: &H) -> u3
             eval_all(args, words, state, hash, &mut buffer);
             hash.apply(*unit, &buffer[..count])
         }
-        Part::Un { op, arg } => apply_un(*op, eval(arg, words, state, hash)),
+        Part::Un { op, arg } => apply_un(*op, word_of(arg, words, state, hash)),
         Part::Chain { first, rest } => {
-            let word = eval(first, words, state, hash);
+            let word = word_of(first, words, state, hash);
             eval_rest(word, rest, words, state, hash)
         }
         Part::Cond { test, yes, no } => {
-            if eval(test, words, state, hash) != 0 {
-                eval(yes, words, state, hash)
+            if word_of(test, words, state, hash) != 0 {
+                word_of(yes, words, state, hash)
             } else {
-                eval(no, words, state, hash)
+                word_of(no, words, state, hash)
             }
         }
     }
@@ -163,11 +177,12 @@ fn eval_all<H: HashUnits>(parts: &PartList, words: &[u32], state: &State, hash: 
     ensures { take (length parts.now) out.new ≡ values (H.meaning hash.now) (names_in (entering words.now state.now)) (forms parts.now) }
 {
     for k in 0..parts.len() {
-        out[k] = eval(part_at(parts, k, words, state), words, state, hash);
+        out[k] = word_of(part_at(parts, k, words, state), words, state, hash);
     }
 }
 
 // A word after operators with their operands, from the left.
+#[inline(always)]
 #[cycle(eval)]
 fn eval_rest<H: HashUnits>(
     first: u32,
@@ -187,6 +202,7 @@ fn eval_rest<H: HashUnits>(
 }
 
 // A word after one operator with its operand.
+#[inline(always)]
 #[cycle(eval)]
 fn eval_next<H: HashUnits>(
     word: u32,
@@ -199,7 +215,7 @@ fn eval_next<H: HashUnits>(
     ensures { result ≡ bin_word operand.now.0 word (value_in (H.meaning hash.now) (entering words.now state.now) (form operand.now.1)) }
 {
     let (op, part) = operand;
-    apply_bin(*op, word, eval(part, words, state, hash))
+    apply_bin(*op, word, word_of(part, words, state, hash))
 }
 
 // Gives a target a word.
@@ -239,7 +255,7 @@ fn run<H: HashUnits>(act: &Act, words: &mut [u32], state: &mut State, hash: &H)
 {
     match act {
         Act::Assign { target, value } => {
-            let word = eval(value, words, state, hash);
+            let word = word_of(value, words, state, hash);
             assign(*target, word, words, state);
         }
         Act::If { test, yes, no } => {

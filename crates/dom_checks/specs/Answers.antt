@@ -1,4 +1,4 @@
--- What checks answer, and what they rest on.
+-- What checks answer, and what they rest on. Only proofs and contracts of private functions cite what follows `IsFirst`.
 use Rattle.std.specs.Prelude.{◌≡◌, ℕ, ◌<◌, Bool, true, false, not, ◌&&◌, ◌||◌, nat_eq, List, slice_get, Option, Some}
 use Rattle.std.specs.List.{list_all, list_any}
 use Rattle.dom_ast.specs.declared.part.Place.{Place}

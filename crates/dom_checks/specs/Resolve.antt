@@ -19,7 +19,8 @@ use Rattle.dom_checks.specs.Scope.{Scope, define_word, heads_scope, meant, with_
 abbrev pub field_number : Scope → List ℕ → ℕ
 field_number scope name = unwrap_or (index_of scope.fields name) 0
 
--- the number of an array
+-- The number of an array; a name that is no array counts as number 0. No answer shows that, since at such a name an earlier
+-- check of the walk does not hold.
 abbrev pub array_number : Option Meant → ℕ
 array_number None = 0
 array_number (Some (meaning.Define w)) = 0
@@ -46,10 +47,12 @@ place_of scope (syntax.un p o e) = place.Word 0
 place_of scope (syntax.chain e os) = place.Word 0
 place_of scope (syntax.choice e a b) = place.Word 0
 
+-- the call of a hash unit; a name that is no unit's stands for 0
 abbrev pub call_part : Option HashName → PartForms → PartForm
 call_part None parts = tree.number 0
 call_part (Some unit) parts = tree.call unit parts
 
+-- an expression with each name as its number
 abbrev mutual
   pub part_of : Scope → ExprForm → PartForm
   part_of scope (syntax.number p w) = tree.number w
@@ -69,11 +72,13 @@ abbrev mutual
   ops_of scope syntax.no_ops = tree.no_ops
   ops_of scope (syntax.op o e os) = tree.op o (part_of scope e) (ops_of scope os)
 
+-- a target with each name as its number
 abbrev pub goal_of : Scope → TargetForm → Goal
 goal_of scope (to_word n) = goal.State (array_number (meant scope n)) (place.Word 0)
 goal_of scope (to_field b q f) = goal.Field (field_number scope f)
 goal_of scope (to_index n e) = goal.State (array_number (meant scope n)) (place_of scope e)
 
+-- statements with each name as its number
 abbrev mutual
   pub act_of : Scope → StmtForm → ActForm
   act_of scope (syntax.assign p t e) = tree.assign (goal_of scope t) (part_of scope e)
@@ -83,6 +88,7 @@ abbrev mutual
   acts_of scope no_stmts = no_acts
   acts_of scope (stmt s ss) = act (act_of scope s) (acts_of scope ss)
 
+-- a guard, if there is one, with each name as its number
 abbrev pub guard_of : Scope → Option ExprForm → Option PartForm
 guard_of scope None = None
 guard_of scope (Some e) = Some (part_of scope e)
@@ -92,6 +98,7 @@ abbrev pub body_of : Scope → TransactionForm → BodyForm
 body_of scope t =
     record { guard = guard_of (with_param scope t.param) t.guard; acts = acts_of (with_param scope t.param) t.body }
 
+-- a program with each name as its number and each define as its word
 abbrev pub resolved : ProgramForm → CheckedForm
 resolved p =
     let scope = heads_scope p.heads in

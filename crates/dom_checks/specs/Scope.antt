@@ -21,13 +21,16 @@ pub record Scope : Type 0 where
   pub arrays : List Array
   pub param : Option (List ℕ)
 
+-- nothing is declared
 abbrev pub nothing : Scope
 nothing = record { tag = []; fields = []; names = []; meanings = []; arrays = []; param = None }
 
+-- the name is the parameter's
 abbrev pub is_param : Option (List ℕ) → List ℕ → Bool
 is_param None name = false
 is_param (Some param) name = is_same param name
 
+-- the meaning at a place, if there is one
 abbrev pub meaning_at : List Meant → Option ℕ → Option Meant
 meaning_at meanings None = None
 meaning_at meanings (Some k) = slice_get meanings k
@@ -44,7 +47,7 @@ define_word (Some (meaning.Scalar k)) = 0
 define_word (Some (meaning.Array k)) = 0
 define_word (Some meaning.Parameter) = 0
 
--- how many words a global has: one without brackets
+-- how many words a global has; one without brackets has one
 abbrev pub length_of : Scope → Option Length → ℕ
 length_of scope None = 1
 length_of scope (Some (extent.Number p w)) = w
@@ -61,7 +64,7 @@ abbrev pub global_meaning : ℕ → Option Length → Meant
 global_meaning k None = meaning.Scalar k
 global_meaning k (Some l) = meaning.Array k
 
--- the same scope with one more name
+-- the scope with one more name and what it means
 abbrev pub with_name : Scope → List ℕ → Meant → Scope
 with_name scope name m =
     record {
@@ -73,6 +76,7 @@ with_name scope name m =
       param = scope.param;
     }
 
+-- with one more array
 abbrev pub with_array : Scope → Array → Scope
 with_array scope array =
     record {
@@ -84,6 +88,7 @@ with_array scope array =
       param = scope.param;
     }
 
+-- with the struct
 abbrev pub with_struct : Scope → List ℕ → List (List ℕ) → Scope
 with_struct scope tag fields =
     record {
@@ -95,6 +100,7 @@ with_struct scope tag fields =
       param = scope.param;
     }
 
+-- inside a transaction with this parameter
 abbrev pub with_param : Scope → List ℕ → Scope
 with_param scope param =
     record {
@@ -122,6 +128,7 @@ without_param scope =
 abbrev pub with_global : Scope → List ℕ → Option Length → Scope
 with_global scope name l = with_name scope name (global_meaning (length scope.arrays) l)
 
+-- the array that a global declares
 abbrev pub array_of : Scope → List ℕ → Option Length → Option Init → Array
 array_of scope name l i = record { name = name; length = length_of scope l; init = init_of scope i }
 

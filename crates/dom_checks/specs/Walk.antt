@@ -1,4 +1,5 @@
--- The checks of a program, in the order of a walk through it, each with its fault and whether it holds.
+-- The checks of a program, in the order of a walk through it, each with its fault and whether it holds. The letters p and q
+-- stand for offsets.
 use Rattle.std.specs.Prelude.{ℕ, suc, ◌+◌, Bool, true, false, not, ◌&&◌, ◌||◌, nat_eq, nat_le, nat_lt, List, [], ◌∷◌, ◌++◌, length, Option, Some, None, is_some, option_map}
 use Rattle.std.specs.List.{find}
 use Rattle.dom_words.specs.declared.array.Array.{Array}
@@ -44,6 +45,7 @@ abbrev pub name_checks : Scope → ℕ → List ℕ → List Check
 name_checks scope p name =
     check (fault.Twice p) (not (is_declared scope name)) ∷ check (fault.ShapeOfName p) (not (is_hash_name name)) ∷ []
 
+-- whether what is declared is a define
 abbrev pub is_define : Option Meant → Bool
 is_define None = false
 is_define (Some (meaning.Define w)) = true
@@ -56,11 +58,13 @@ abbrev pub define_checks : Scope → ℕ → List ℕ → List Check
 define_checks scope p name =
     check (fault.UnknownName p) (is_declared scope name) ∷ check (fault.ShapeOfName p) (is_define (meant scope name)) ∷ []
 
+-- at the length of a global
 abbrev pub length_checks : Scope → Option Length → List Check
 length_checks scope None = []
 length_checks scope (Some (extent.Number p w)) = []
 length_checks scope (Some (extent.Word p n)) = define_checks scope p n
 
+-- at the word that a global starts with
 abbrev pub init_checks : Scope → Option Init → List Check
 init_checks scope None = []
 init_checks scope (Some (init.Word w)) = []
@@ -82,10 +86,12 @@ abbrev pub new_field_checks : List (List ℕ) → ℕ × List ℕ → List Check
 new_field_checks before f =
     check (fault.Twice f.0) (not (has_name before f.1)) ∷ check (fault.TooLarge limit.Fields f.0) (nat_lt (length before) 64) ∷ []
 
+-- at the fields after some
 abbrev pub fields_checks : List (List ℕ) → List (ℕ × List ℕ) → List Check
 fields_checks before [] = []
 fields_checks before (f ∷ fields) = new_field_checks before f ++ fields_checks (before ++ f.1 ∷ []) fields
 
+-- at a head
 abbrev pub head_checks : Scope → Head → List Check
 head_checks scope (head.Define p name w) = name_checks scope p name
 head_checks scope (head.Struct p tag fields) = fields_checks [] fields
@@ -93,12 +99,14 @@ head_checks scope (head.Global p name l i) =
     name_checks scope p name
     ++ (check (fault.TooLarge limit.Arrays p) (nat_lt (length scope.arrays) 32) ∷ global_checks (with_global scope name l) p l i)
 
+-- at heads, each in the scope of those before it
 abbrev pub heads_checks : Scope → List Head → List Check
 heads_checks scope [] = []
 heads_checks scope (h ∷ hs) = head_checks scope h ++ heads_checks (declared scope h) hs
 
 -- Expressions. `before` are the mentions of arrays earlier in the walk.
 
+-- whether what is declared is the parameter
 abbrev pub is_parameter : Option Meant → Bool
 is_parameter None = false
 is_parameter (Some (meaning.Define w)) = false
@@ -129,6 +137,7 @@ word_checks in_guard scope p name =
     ∷ check (fault.UnknownName p) (is_declared scope name)
     ∷ []
 
+-- whether what is declared is an array with an index
 abbrev pub is_array : Option Meant → Bool
 is_array None = false
 is_array (Some (meaning.Define w)) = false
@@ -136,7 +145,7 @@ is_array (Some (meaning.Scalar k)) = false
 is_array (Some (meaning.Array k)) = true
 is_array (Some meaning.Parameter) = false
 
--- the offset of the first token of an expression that is no bracket
+-- the offset of the first token of an expression that is no `(`
 abbrev pub first_at : ExprForm → ℕ
 first_at (number p w) = p
 first_at (word p n) = p
@@ -163,6 +172,7 @@ place_checks scope (choice e a b) = check (fault.BadIndex (first_at e)) false �
 abbrev pub first_index : List Mention → ℕ → Option Place
 first_index before a = option_map (λ m. m.index) (find (λ m. nat_eq m.array a) before)
 
+-- the index is that of the first mention, if there is one
 abbrev pub is_same_index : Option Place → Place → Bool
 is_same_index None i = true
 is_same_index (Some j) i = is_place j i
@@ -188,6 +198,7 @@ abbrev pub exprs_count : ExprForms → ℕ
 exprs_count no_exprs = 0
 exprs_count (expr e es) = suc (exprs_count es)
 
+-- the unit is there, and takes so many arguments
 abbrev pub takes : Option HashName → ℕ → Bool
 takes None n = false
 takes (Some unit) n = nat_eq unit.args n
@@ -204,6 +215,7 @@ unit_checks scope p name n =
 abbrev pub expr_mentions : Scope → ExprForm → List Mention
 expr_mentions scope e = part_mentions (part_of scope e)
 
+-- At an expression, from left to right. The mentions in a part come before the next part.
 abbrev mutual
   pub expr_checks : Bool → Scope → List Mention → ExprForm → List Check
   expr_checks g scope before (number p w) = []
@@ -230,6 +242,7 @@ abbrev mutual
 
 -- Statements.
 
+-- whether what is declared may be a target without an index
 abbrev pub is_target : Option Meant → Bool
 is_target None = true
 is_target (Some (meaning.Define w)) = false
@@ -251,12 +264,15 @@ target_checks scope before p (to_field base q name) =
     field_checks scope p base q name ++ kept_checks before p (field_number scope name)
 target_checks scope before p (to_index name e) = index_checks false scope before p name e
 
+-- the mentions of arrays in a statement
 abbrev pub stmt_mentions : Scope → StmtForm → List Mention
 stmt_mentions scope s = mentions_in (act_visits (act_of scope s))
 
+-- the mentions of arrays in statements
 abbrev pub stmts_mentions : Scope → StmtForms → List Mention
 stmts_mentions scope ss = mentions_in (acts_visits (acts_of scope ss))
 
+-- At statements: a condition comes before its two branches, and a value before its target.
 abbrev mutual
   pub stmt_checks : Scope → List Mention → StmtForm → List Check
   stmt_checks scope before (assign p t e) =
@@ -272,17 +288,19 @@ abbrev mutual
 
 -- Transactions.
 
+-- at a guard, if there is one
 abbrev pub guard_checks : Scope → List Mention → Option ExprForm → List Check
 guard_checks scope before None = []
 guard_checks scope before (Some e) = expr_checks true scope before e
 
--- the parameter stands from its own place to the end of its transaction
+-- at a transaction; its parameter stands from its own place to its end
 abbrev pub transaction_checks : Scope → List Mention → TransactionForm → List Check
 transaction_checks scope before t =
     let inner = with_param scope t.param in
     check (fault.UnknownName t.tag_at) (is_same t.tag scope.tag)
     ∷ (name_checks scope t.param_at t.param ++ (guard_checks inner before t.guard ++ stmts_checks inner before t.body))
 
+-- at transactions, each after the mentions in those before it
 abbrev pub transactions_checks : Scope → List Mention → List TransactionForm → List Check
 transactions_checks scope before [] = []
 transactions_checks scope before (t ∷ ts) =

@@ -11,6 +11,7 @@ pub data Flank : Type 0 where
   store : ℕ → Operand → Operand → Flank
   plain : Flank
 
+-- what this statement is to the state
 abbrev pub flank_of : Line → Flank
 flank_of (line.Fetch array i) = fetch array i
 flank_of (line.Store array i value) = store array i value

@@ -45,6 +45,7 @@ have_words operands = list_all has_word operands
 abbrev pub lines_have_words : List Line → Bool
 lines_have_words lines = list_all (λ l. have_words (operands_of l)) lines
 
+-- the arrays of flanks are in range, and hashes have as many arguments as their units say
 abbrev pub lines_within : ℕ → List Line → Bool
 lines_within arrays lines = list_all (λ l. has_array arrays l && has_its_args l) lines
 

@@ -56,6 +56,7 @@ values_after hash env lines = slice_index (run_lines hash env lines).values
 abbrev pub flat_entering : List ℕ → List (List ℕ) → FlatEnv
 flat_entering packet arrays = record { arrays = arrays; values = packet }
 
+-- the words of the outputs, and the arrays at the end
 abbrev pub flat_end : List Operand → FlatEnv → Outcome
 flat_end outputs env = record { packet = map (λ o. operand_word o (slice_index env.values)) outputs; arrays = env.arrays }
 

@@ -1,4 +1,4 @@
--- What follows from the order of a statement list.
+-- What follows from the order of a statement list. Of this, contracts cite `IsQuiet` alone.
 use Rattle.std.specs.Prelude.{◌≡◌, ℕ, suc, true, false, List, [], ◌∷◌, ⊤, ◌≢◌}
 use Rattle.std.specs.List.{AllByRecursion}
 use Rattle.dom_flat.specs.declared.line.Line.{Line}

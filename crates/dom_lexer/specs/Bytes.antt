@@ -7,6 +7,7 @@ use Rattle.std.specs.List.{list_all}
 abbrev pub is_space : ℕ → Bool
 is_space b = b == 32 || (nat_le 9 b && nat_le b 13)
 
+-- there is no byte
 abbrev pub is_empty : List ℕ → Bool
 is_empty [] = true
 is_empty (b ∷ bs) = false
@@ -27,6 +28,7 @@ is_hex (z ∷ x ∷ []) = false
 is_hex (z ∷ []) = false
 is_hex [] = false
 
+-- a number in either form
 abbrev pub is_number : List ℕ → Bool
 is_number bs = is_decimal bs || is_hex bs
 
@@ -38,10 +40,12 @@ digit_of b = if is_ascii_digit b then b - 48 else (if nat_le 97 b then b - 87 el
 abbrev pub based : ℕ → List ℕ → ℕ
 based base bs = fold (λ n b. n * base + digit_of b) 0 bs
 
+-- the second byte is `x` or `X`, as in a number of the second form
 abbrev pub has_x : List ℕ → Bool
 has_x (z ∷ x ∷ ds) = is_x x
 has_x (z ∷ []) = false
 has_x [] = false
 
+-- the value of a number in either form
 abbrev pub number_value : List ℕ → ℕ
 number_value bs = if has_x bs then based 16 (drop 2 bs) else based 10 bs

@@ -1,4 +1,4 @@
--- What the scanner's functions answer.
+-- What the lexer's functions answer. Only proofs and contracts of private functions cite this.
 use Rattle.std.specs.Prelude.{◌≡◌, ℕ, ◌+◌, ◌<◌, ◌≤◌, List, [], ◌++◌, length, drop, Option, Some, None}
 use Rattle.dom_lexer.specs.Text.{Piece, token, bytes_of, spelling, Stands, Row, tokens_of, tokens_from, StartsNothing, StartsToken, StartsOpenComment, StartsBigNumber, StartsTouchedNumber, IsFault, IsFaultAt, most_tokens}
 use Rattle.dom_lexer.specs.declared.token.TokenKind.{TokenKind}
@@ -30,7 +30,7 @@ pub record BeginsToken (text : List ℕ) (kind : TokenKind) (n : ℕ) : Type 0 w
   pub bytes : List ℕ
   pub begins : Begins text n (token kind bytes)
 
--- the token that starts here
+-- a token of this form starts here, or a number that is too great or that a letter, a digit or `_` follows
 abbrev pub IsForm : List ℕ → Form → Type 0
 IsForm text (Letters n) = (w : List ℕ) × Begins text n (token (Word w) w)
 IsForm text (Digits value n) = BeginsToken text (Number value) n
@@ -38,6 +38,7 @@ IsForm text TooBig = StartsBigNumber text
 IsForm text (Touched n) = StartsTouchedNumber text n
 IsForm text (Symbol s) = BeginsToken text (Sign s) (length (spelling s))
 
+-- this stands first in the text
 abbrev pub IsNext : List ℕ → Next → Type 0
 IsNext text (Gap n) = BeginsGap text n
 IsNext text Unclosed = StartsOpenComment text
@@ -52,7 +53,7 @@ IsTokenFault at rest (BigLiteral place) = (place ≡ at) × StartsBigNumber rest
 IsTokenFault at rest (TooManyTokens place) = ⊥
 IsTokenFault at rest Memory = Unit {0}
 
--- one piece on
+-- from offset `at` one piece leads on to offset `next`, and where it is a token the list has grown by it
 pub record Grows (text : List ℕ) (at : ℕ) (old : List Token) (next : ℕ) (new : List Token) : Type 0 where
   pub piece : Piece
   pub forth : at < next
@@ -71,11 +72,11 @@ OrMemory P (BigLiteral place) = P (BigLiteral place)
 OrMemory P (TooManyTokens place) = P (TooManyTokens place)
 OrMemory P Memory = Unit {0}
 
--- the fault of the rest of a text
+-- the fault at the front of the rest of a text, which starts at an offset with so many tokens before it, or want of memory
 abbrev pub FaultHere : List ℕ → ℕ → ℕ → LexFault → Type 0
 FaultHere rest at count fault = OrMemory (IsFaultAt at count rest) fault
 
--- the first fault of a text
+-- the first fault of a text, or want of memory
 abbrev pub IsFaultOrMemory : List ℕ → LexFault → Type 0
 IsFaultOrMemory text fault = OrMemory (IsFault text) fault
 

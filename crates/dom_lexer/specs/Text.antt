@@ -12,6 +12,7 @@ use Rattle.dom_lexer.specs.declared.token.Token.{Token}
 use Rattle.dom_lexer.specs.declared.token.LexFault.{LexFault}
 use Rattle.dom_lexer.specs.declared.token.LexFault.TheVariants.{BadByte, OpenComment, BigLiteral, TooManyTokens, Memory}
 
+-- how each symbol is spelled
 abbrev pub spelling : Sym → List ℕ
 spelling Shl = codes "<<"
 spelling Shr = codes ">>"
@@ -47,10 +48,11 @@ spelling OpenBrace = codes "{"
 spelling CloseBrace = codes "}"
 spelling Hash = codes "#"
 
--- w has the form P, and nothing longer at its place has it
+-- w has the form P, and nothing longer has it in a text that goes on with `after` behind w
 abbrev pub IsLongest : (List ℕ → Type 0) → List ℕ → List ℕ → Type 0
 IsLongest P w after = P w × ((v rest : List ℕ) → v ++ rest ≡ w ++ after → P v → length v ≤ length w)
 
+-- the forms of words, of numbers and of symbols
 abbrev pub IsWord : List ℕ → Type 0
 IsWord w = is_word w ≡ true
 
@@ -76,16 +78,19 @@ abbrev pub first_is : (ℕ → Bool) → List ℕ → Bool
 first_is p [] = false
 first_is p (b ∷ bs) = p b
 
--- a byte that ends no line
+-- any byte but a line feed
 abbrev pub is_no_feed : ℕ → Bool
 is_no_feed b = not (b == 10)
 
+-- what begins a comment up to the end of its line
 abbrev pub line_mark : List ℕ
 line_mark = codes "//"
 
+-- what begins a comment that `*/` ends
 abbrev pub open_mark : List ℕ
 open_mark = codes "/*"
 
+-- what ends such a comment
 abbrev pub close_mark : List ℕ
 close_mark = codes "*/"
 
@@ -100,26 +105,29 @@ pub data Piece : Type 0 where
   block : List ℕ → Piece
   token : TokenKind → List ℕ → Piece
 
+-- the bytes of a piece
 abbrev pub bytes_of : Piece → List ℕ
 bytes_of (space b) = b ∷ []
 bytes_of (line body) = line_mark ++ body
 bytes_of (block body) = open_mark ++ (body ++ close_mark)
 bytes_of (token kind w) = w
 
--- these bytes, before those, are this token: no comment starts at a symbol, and no letter, digit or `_` follows a number
+-- With `after` behind them, the bytes w are this token: the longest word, number or symbol at their place. No comment
+-- starts where a symbol does, and no letter, digit or `_` follows a number.
 abbrev pub IsToken : TokenKind → List ℕ → List ℕ → Type 0
 IsToken (Word name) w after = IsLongest IsWord w after × (name ≡ w)
 IsToken (Number n) w after = IsLongest IsNumber w after × ((number_value w ≡ n) × ((n ≤ greatest_number) × (first_is is_word_byte after ≡ false)))
 IsToken (Symbol s) w after = IsLongest IsSymbol w after × ((w ≡ spelling s) × ((starts line_mark (w ++ after) ≡ false) × (starts open_mark (w ++ after) ≡ false)))
 
--- this piece may stand before those bytes
+-- This piece may stand before the bytes `after`. A comment up to the end of its line ends before a line feed or the end of
+-- the text, and one between marks ends at its first `*/`.
 abbrev pub Stands : Piece → List ℕ → Type 0
 Stands (space b) after = is_space b ≡ true
 Stands (line body) after = (list_all is_no_feed body ≡ true) × (first_is is_no_feed after ≡ false)
 Stands (block body) after = has_mark close_mark body ≡ false
 Stands (token kind w) after = IsToken kind w after
 
--- the pieces lead from a text to the rest of it
+-- the pieces, each where it may stand, lead from a text to the rest of it
 abbrev pub Row : List Piece → List ℕ → List ℕ → Type 0
 Row [] text rest = text ≡ rest
 Row (p ∷ ps) text rest = (after : List ℕ) × ((text ≡ bytes_of p ++ after) × (Stands p after × Row ps after rest))
@@ -136,7 +144,7 @@ abbrev pub tokens_from : ℕ → List Piece → List Token
 tokens_from at [] = []
 tokens_from at (p ∷ ps) = tokens_of at p ++ tokens_from (at + length (bytes_of p)) ps
 
--- a text and its tokens
+-- the text is a row of pieces, and the tokens are those among them
 pub record Lexed (text : List ℕ) (tokens : List Token) : Type 0 where
   pub pieces : List Piece
   pub row : Row pieces text []
@@ -190,7 +198,8 @@ pub record StartsTouchedNumber (text : List ℕ) (n : ℕ) : Type 0 where
   pub touched : first_is is_word_byte after ≡ true
   pub size : length digits ≡ n
 
--- what is wrong with the rest of a text, which starts at an offset with so many tokens before it
+-- What is wrong at the front of the rest of a text, which starts at an offset with so many tokens before it. A token that
+-- would be one too many is told before its value is looked at.
 abbrev pub IsFaultAt : ℕ → ℕ → List ℕ → LexFault → Type 0
 IsFaultAt at count rest (BadByte place) = ((place ≡ at) × StartsNothing rest) ⊎ ((count < most_tokens) × ((n : ℕ) × ((place ≡ at + n) × StartsTouchedNumber rest n)))
 IsFaultAt at count rest (OpenComment place) = (place ≡ at) × StartsOpenComment rest

@@ -6,11 +6,13 @@ use Rattle.dom_lexer.specs.declared.token.TokenKind.{TokenKind}
 use Rattle.dom_lexer.specs.declared.token.TokenKind.TheVariants.{Word, Number, Sym as Symbol}
 use Rattle.dom_lexer.specs.declared.token.Token.{Token}
 
+-- the bytes of a word; `None` for all other tokens
 abbrev pub word_of : TokenKind → Option (List ℕ)
 word_of (Word w) = Some w
 word_of (Number n) = None
 word_of (Symbol s) = None
 
+-- the words among tokens, in order
 abbrev pub words_of : List Token → List (List ℕ)
 words_of tokens = filter_map (λ t. word_of t.kind) tokens
 

@@ -11,7 +11,7 @@ use Rattle.dom_parser.specs.declared.kinds.Kind.TheVariants as kind
 use Rattle.dom_parser.specs.Tokens.{Mark, mark, stands, offset_at, ahead, is_minus, number_first}
 use Rattle.dom_parser.specs.Grammar.{Program, IsProgram, program_tokens, program_opens, IsSpelled, IsViable, Spells}
 
--- the fault at a token of a kind and an offset, in a text of `end` bytes
+-- the fault at a token of this kind and at this offset, in a text of `end` bytes
 abbrev pub unexpected_at : Kind → ℕ → ℕ → ParseFault
 unexpected_at kind.Forbidden offset end = answer.Forbidden offset
 unexpected_at kind.End offset end = answer.Unexpected end
@@ -59,7 +59,7 @@ Rules l (place.Unexpected p) = RulesOut l p
 Rules l (place.TooNested p) = OpensTooMany l p
 Rules l place.Memory = Unit {0}
 
--- the fault is the first token that may not follow, or that opens one construct too many
+-- the fault is that of the first token that may not follow, or that opens one construct too many, told with its offset
 pub record IsFirstFault (l : List Token) (end : ℕ) (f : ParseFault) : Type 0 where
   pub fault : Fault
   pub located : f ≡ located_at l end fault

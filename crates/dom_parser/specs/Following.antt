@@ -1,4 +1,5 @@
--- What may follow, token by token: a stack of the items that are still to come.
+-- What may follow, token by token: a stack of the items that are still to come. Only proofs and contracts of private
+-- functions cite this.
 use Rattle.std.specs.Prelude.{ℕ, zero, suc, ◌+◌, Bool, true, false, ◌&&◌, List, [], ◌∷◌, ◌++◌, Option, Some, None, if◌then◌else◌, nat_eq, nat_le}
 use Rattle.dom_words.specs.declared.operators.BinOp.{BinOp}
 use Rattle.dom_words.specs.declared.operators.UnOp.{UnOp}
@@ -52,7 +53,7 @@ lead_of kind.Name = lead.Assign
 lead_of (kind.Fixed f) = lead_fixed f
 lead_of _ = lead.Other
 
--- what may begin a definition or a global
+-- what may begin a define or a global
 abbrev pub declared_fixed : Fixed → Declared
 declared_fixed fixed.Hash = declared.Define
 declared_fixed fixed.Int = declared.Global
@@ -103,6 +104,7 @@ pub data Item : Type 0 where
   guard : Item
   transactions : Item
 
+-- Rows: what is still to come of an item behind its first token, or `None` where the token may not begin it.
 abbrev pub when : Bool → List Item → Option (List Item)
 when true row = Some row
 when false row = None
@@ -259,6 +261,7 @@ resume (Some row) b o s = Some (row ++ s)
 resume None true o s = o
 resume None false o s = None
 
+-- the stack after a token; `None` where the token may not stand there
 abbrev pub step : List Item → Kind → Bool → Option (List Item)
 step [] k n = None
 step (i ∷ s) k n = resume (expand i k n) (may_skip i) (step s k n) s
@@ -285,10 +288,12 @@ pub data Trace : Type 0 where
   stuck : Trace
   count : ℕ → Trace → Trace
 
+-- the trace behind a token, from the stack after it
 abbrev pub on_step : Option (List Item) → (List Item → Trace) → Trace
 on_step None go = stuck
 on_step (Some s) go = count (held s) (go s)
 
+-- the trace of tokens from a stack
 abbrev pub trace : List Item → List Mark → Trace
 trace s [] = if may_end s then fine else stuck
 trace s (t ∷ l) = on_step (step s t.kind (number_first l)) (λ s. trace s l)
@@ -308,6 +313,7 @@ problem p fine = None
 problem p stuck = Some (bad p)
 problem p (count n t) = if nat_le n limit then problem (p + 1) t else Some (deep p)
 
+-- the first problem of the tokens from place p on, with a stack
 abbrev pub fault_from : List Token → ℕ → List Item → Option Problem
 fault_from l p s = problem p (trace s (rest l p))
 
@@ -318,7 +324,7 @@ begins lead.Assign = true
 begins lead.If = true
 begins lead.Other = false
 
--- whether a definition or a global begins
+-- whether a define or a global begins
 abbrev pub declares : Declared → Bool
 declares declared.Define = true
 declares declared.Global = true

@@ -1,6 +1,7 @@
--- The grammar. For each rule there is a type of the ways to spell it, with a constructor for each of its alternatives. Of a
--- way there are the tokens that it spells, the tree that they stand for, and, for each token, the number of open constructs.
--- Offsets stand before what they are offsets of.
+-- The grammar. For each rule there is a type of the ways to spell it, with a constructor for each of its alternatives. A
+-- constructor has the tokens from left to right: of each its offset, and then the name, the number or the operator that it
+-- has, if it has one; in `and_then` alone the operator stands before its offset. Of a way there are the tokens that it
+-- spells, the tree that they stand for, and, for each token, the number of open constructs.
 use Rattle.std.specs.Prelude.{◌≡◌, ℕ, zero, suc, ◌-◌, ◌%◌, ◌^◌, ◌≤◌, List, [], ◌∷◌, ◌++◌, map, Option, Some, None}
 use Rattle.dom_words.specs.declared.operators.BinOp.{BinOp}
 use Rattle.dom_words.specs.declared.operators.BinOp.TheVariants as bin
@@ -82,7 +83,7 @@ abbrev pub MakesNode : UnOp → Way → Type 0
 MakesNode un.Neg (a_number p w) = ⊥
 MakesNode _ _ = Unit {0}
 
--- the levels
+-- A way is one of level k, and `IsAfter k` may follow the first part of level k + 1.
 abbrev mutual
   pub IsAt : ℕ → Way → Type 0
   IsAt zero (a_number p w) = Unit {0}
@@ -110,6 +111,7 @@ abbrev mutual
   AreMoreArgs last_arg = Unit {0}
   AreMoreArgs (next_arg p w m) = IsAt top w × AreMoreArgs m
 
+-- the tokens of a way
 abbrev mutual
   pub tokens : Way → List Mark
   tokens (a_number p w) = number_mark p w ∷ []
@@ -151,6 +153,7 @@ abbrev pub and_op : BinOp → ExprForm → Tail → Tail
 and_op o e (ops fs) = ops (op o e fs)
 and_op o e (choose a b) = ops (op o e no_ops)
 
+-- the tree of a way; parentheses leave no trace in it
 abbrev mutual
   pub tree : Way → ExprForm
   tree (a_number p w) = number p w
@@ -176,8 +179,9 @@ abbrev mutual
   more_arg_trees last_arg = no_exprs
   more_arg_trees (next_arg p w m) = expr (tree w) (more_arg_trees m)
 
--- For each token the number of constructs that hold it, where `n` constructs hold the whole. A bracket's construct goes from it
--- to its partner, that of an operator that makes a node to the end of its operand, that of a "?" to the end of its conditional.
+-- For each token the number of constructs that are open at it, where `n` are open around the whole. A bracket's construct
+-- goes from it to its partner, that of an operator that makes a node to the end of its operand, that of a "?" to the end of
+-- its conditional.
 abbrev mutual
   pub opens : ℕ → Way → List ℕ
   opens n (a_number p w) = n ∷ []
@@ -228,6 +232,7 @@ goal_opens n (goal_word p m) = n ∷ []
 goal_opens n (goal_field p m q r f) = n ∷ n ∷ n ∷ []
 goal_opens n (goal_index p m q w r) = n ∷ suc n ∷ (opens (suc n) w ++ suc n ∷ [])
 
+-- where a target starts
 abbrev pub first_place : Goal → ℕ
 first_place (goal_word p n) = p
 first_place (goal_field p n q r f) = p
@@ -471,6 +476,9 @@ field_opens n no_fields = []
 field_opens n (a_field_of p q m r f) = n ∷ n ∷ n ∷ field_opens n f
 
 -- Struct = "struct" Name "{" "int" Name ";" { "int" Name ";" } "}" ";"
+-- The arguments in order: the offset of `struct`; the name with its offset before it; the offsets of `{` and of the first
+-- `int`; the first field's name with its offset before it; the offset of its `;`; the other fields; the offsets of `}` and
+-- `;`.
 pub data Structure : Type 0 where
   a_struct : ℕ → ℕ → List ℕ → ℕ → ℕ → ℕ → List ℕ → ℕ → Fields → ℕ → ℕ → Structure
 
@@ -507,6 +515,9 @@ guard_opens n no_guard = []
 guard_opens n (a_guard p q w r) = n ∷ suc n ∷ (opens (suc n) w ++ suc n ∷ [])
 
 -- Transaction = "void" Name "(" "struct" Name Name ")" [ "if" "(" Expr ")" ] Block
+-- The arguments in order: the offset of `void`; the name with its offset before it; the offsets of `(` and `struct`; the
+-- struct's name and the parameter's, each with its offset before it; the offset of `)`; the guard; the offset of `{`; the
+-- statements; the offset of `}`.
 pub data Transaction : Type 0 where
   a_transaction : ℕ → ℕ → List ℕ → ℕ → ℕ → ℕ → List ℕ → ℕ → List ℕ → ℕ → Guard → ℕ → Stmts → ℕ → Transaction
 
@@ -575,6 +586,6 @@ AreWithin (n ∷ ns) = (n ≤ 64) × AreWithin ns
 abbrev pub IsSpelled : ProgramForm → List Token → Type 0
 IsSpelled p l = (way : Program) × IsProgram way × (program_tokens way ≡ map mark l) × (program_tree way ≡ p) × AreWithin (program_opens way)
 
--- the tokens are a front of some program
+-- some program begins with the tokens
 abbrev pub IsViable : List Token → Type 0
 IsViable l = (way : Program) × IsProgram way × (rest : List Mark) × (program_tokens way ≡ map mark l ++ rest)

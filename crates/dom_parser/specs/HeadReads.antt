@@ -1,4 +1,4 @@
--- What the functions on heads and transactions read.
+-- What the functions on heads and transactions read. Only proofs and contracts of private functions cite this.
 use Rattle.std.specs.Prelude.{◌≡◌, ℕ, ◌+◌, ◌<◌, ◌≤◌, List, [], ◌∷◌, ◌++◌, Option, Some, None, length}
 use Rattle.dom_lexer.specs.declared.token.Token.{Token}
 use Rattle.dom_ast.specs.declared.program.Head.{Head}

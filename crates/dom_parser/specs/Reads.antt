@@ -1,4 +1,4 @@
--- What the parser's functions read, and where they fail.
+-- What the parser's functions read, and where they fail. Only proofs and contracts of private functions cite this.
 use Rattle.std.specs.Prelude.{◌≡◌, ℕ, ◌+◌, ◌-◌, ◌%◌, ◌^◌, ◌<◌, ◌≤◌, if◌then◌else◌, List, [], ◌∷◌, ◌++◌, Option, Some, None, length}
 use Rattle.dom_words.specs.declared.operators.BinOp.{BinOp}
 use Rattle.dom_lexer.specs.declared.token.Token.{Token}

@@ -16,26 +16,28 @@ use Rattle.dom_parser.specs.declared.kinds.Fixed.TheVariants as fixed
 use Rattle.dom_parser.specs.declared.kinds.Kind.{Kind}
 use Rattle.dom_parser.specs.declared.kinds.Kind.TheVariants as kind
 
--- the language's own words
+-- what each of the language's own words is
 abbrev pub own_kinds : List (List ℕ × Fixed)
 own_kinds =
     (codes "struct", fixed.Struct) ∷ (codes "int", fixed.Int) ∷ (codes "void", fixed.Void)
     ∷ (codes "if", fixed.If) ∷ (codes "else", fixed.Else) ∷ (codes "define", fixed.Define) ∷ []
 
--- what a word is by such a table, if it is there
+-- what a word is by such a table; `None` where it is not in it
 abbrev pub found_in : List (List ℕ × Fixed) → List ℕ → Option Fixed
 found_in [] text = None
 found_in (entry ∷ table) text = if is_same text entry.0 then Some entry.1 else found_in table text
 
--- an own word, a forbidden one, or a name
+-- what a word is, by what it is among the own words, and whether it is forbidden
 abbrev pub kind_by : Option Fixed → Bool → Kind
 kind_by (Some own) forbidden = kind.Fixed own
 kind_by None true = kind.Forbidden
 kind_by None false = kind.Name
 
+-- what a word is to the grammar: an own word, a forbidden one, or a name
 abbrev pub word_kind : List ℕ → Kind
 word_kind text = kind_by (found_in own_kinds text) (has_name forbidden_words text)
 
+-- what a symbol is to the grammar; `-` is the operator `Sub` wherever it stands
 abbrev pub symbol_kind : Sym → Kind
 symbol_kind sym.Shl = kind.Operator bin.Shl
 symbol_kind sym.Shr = kind.Operator bin.Shr
@@ -71,6 +73,7 @@ symbol_kind sym.OpenBrace = kind.Fixed fixed.OpenBrace
 symbol_kind sym.CloseBrace = kind.Fixed fixed.CloseBrace
 symbol_kind sym.Hash = kind.Fixed fixed.Hash
 
+-- what a token is to the grammar
 abbrev pub token_kind : TokenKind → Kind
 token_kind (token.Word text) = word_kind text
 token_kind (token.Number n) = kind.Number n
@@ -93,6 +96,7 @@ pub record Mark : Type 0 where
   pub kind : Kind
   pub text : List ℕ
 
+-- a token as the grammar sees it
 abbrev pub mark : Token → Mark
 mark t = record { place = t.at; kind = token_kind t.kind; text = name_text (token_kind t.kind) (word_text t.kind) }
 
@@ -122,7 +126,7 @@ text_in (Some t) = word_text t.kind
 abbrev pub text_at : List Token → ℕ → List ℕ
 text_at l n = text_in (slice_get l n)
 
--- how weakly an operator binds
+-- the level of an operator in the grammar: the higher, the more weakly it binds
 abbrev pub rank_of : BinOp → ℕ
 rank_of bin.Mul = 1
 rank_of bin.Div = 1
@@ -143,6 +147,7 @@ rank_of bin.BitOr = 8
 rank_of bin.And = 9
 rank_of bin.Or = 10
 
+-- a number for each own word and symbol, by which they are compared
 abbrev pub fixed_number : Fixed → ℕ
 fixed_number fixed.Struct = 0
 fixed_number fixed.Int = 1
@@ -173,19 +178,22 @@ abbrev pub is_name : Kind → Bool
 is_name kind.Name = true
 is_name _ = false
 
+-- the number there, if it is one
 abbrev pub number_of : Kind → Option ℕ
 number_of (kind.Number n) = Some n
 number_of _ = None
 
+-- the operator of this level there, if it is one
 abbrev pub operator_of : ℕ → Kind → Option BinOp
 operator_of n (kind.Operator o) = if nat_eq (rank_of o) n then Some o else None
 operator_of n _ = None
 
--- a minus sign before an operand
+-- `-` before an operand
 abbrev pub negation : BinOp → Option UnOp
 negation bin.Sub = Some un.Neg
 negation _ = None
 
+-- the operator before an operand there, if it is one
 abbrev pub unary_of : Kind → Option UnOp
 unary_of (kind.Operator o) = negation o
 unary_of kind.Inv = Some un.Inv

@@ -8,6 +8,7 @@ pub enum ParseFault {
     Unexpected(u32),
     /// The token opens a construct while 64 are open.
     TooNested(u32),
+    /// Want of memory.
     Memory,
 }
 

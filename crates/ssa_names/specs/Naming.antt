@@ -1,4 +1,5 @@
--- One name for each value.
+-- One name for each value: a walk through the flanks and steps that keeps what stands for each name, and makes an item for
+-- each value.
 use Rattle.std.specs.Prelude.{ℕ, List, [], ◌∷◌, ◌++◌, Option, Some, None, fold, length, map, replicate, slice_index_or, slice_set}
 use Rattle.std.specs.List.{range_with_len}
 use Rattle.dom_ast.specs.declared.part.Goal.{Goal}
@@ -13,6 +14,7 @@ use Rattle.dom_ast.specs.Straight.{StepForm}
 use Rattle.ssa_names.specs.declared.operand.Operand.{Operand}
 use Rattle.ssa_names.specs.declared.operand.Operand.TheVariants.{Number, Field, Made}
 
+-- the operand as an expression
 abbrev pub operand_form : Operand → PartForm
 operand_form (Number w) = number w
 operand_form (Field f) = field f
@@ -34,6 +36,7 @@ pub record Naming : Type 0 where
 abbrev pub at : List Operand → ℕ → Operand
 at operands k = slice_index_or operands k (Number 0)
 
+-- what stands for an index
 abbrev pub place_operand : Current → Place → Operand
 place_operand now (place.Word w) = Number w
 place_operand now (place.Field f) = at now.fields f
@@ -111,11 +114,13 @@ named_write n a = record {
   items = n.items ++ write a (operand_form (at n.now.indexes a)) (operand_form (at n.now.arrays a)) ∷ [];
 }
 
+-- one flank or step more
 abbrev pub named_item : Naming → FlankForm → Naming
 named_item n (flank.read a i) = named_read n a (place_operand n.now i)
 named_item n (flank.set s) = named_set n s (plain n.now s.value)
 named_item n (flank.write a i) = named_write n a
 
+-- each entered field stands for itself
 abbrev pub first_fields : ℕ → List Operand
 first_fields fields = map Field (range_with_len 0 fields)
 
@@ -132,6 +137,6 @@ starting fields arrays names = record {
 abbrev pub named : ℕ → ℕ → ℕ → List FlankForm → Naming
 named fields arrays names items = fold named_item (record { now = starting fields arrays names; items = [] }) items
 
--- what stands for the fields
+-- what stands for the fields at the end
 abbrev pub outputs_of : Naming → List PartForm
 outputs_of n = map operand_form n.now.fields

@@ -1,4 +1,4 @@
--- What stands for names, as it is kept in tables.
+-- What stands for names, as it is kept in tables. Only proofs and contracts of private functions cite this.
 use Rattle.std.specs.Prelude.{map}
 use Rattle.dom_words.specs.declared.operators.BinOp.{BinOp}
 use Rattle.dom_ast.specs.Named.{named_form}

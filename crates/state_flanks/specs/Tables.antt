@@ -1,4 +1,5 @@
--- Flanks by tables: for each array, whether it has been mentioned, and the index at which it was a target first.
+-- Flanks by tables: for each array, whether it has been mentioned, and the index at which it was a target first. Only
+-- proofs and contracts of private functions cite this.
 use Rattle.std.specs.Prelude.{ℕ, ◌+◌, Bool, true, List, [], ◌∷◌, ◌++◌, fold, Option, Some, None, if◌then◌else◌, slice_index_or, slice_set}
 use Rattle.std.specs.Option.{option_or}
 use Rattle.dom_ast.specs.declared.part.Goal.{Goal}
@@ -14,9 +15,11 @@ use Rattle.state_flanks.specs.WithFlanks.{write_flank}
 abbrev pub is_marked : List Bool → Mention → Bool
 is_marked table m = slice_index_or table m.array true
 
+-- the table after a mention
 abbrev pub marked : List Bool → Mention → List Bool
 marked table m = if is_marked table m then table else slice_set table m.array true
 
+-- the read flank that comes with a mention, if its array has not been mentioned
 abbrev pub new_read : List Bool → Mention → List FlankForm
 new_read table m = if is_marked table m then [] else read m.array m.index ∷ []
 
@@ -87,7 +90,7 @@ abbrev pub steps_reads : List Bool → List StepForm → List FlankForm
 steps_reads table [] = []
 steps_reads table (s ∷ ss) = step_reads table s ++ (set s ∷ steps_reads (step_marks table s) ss)
 
--- the first index of each array stays
+-- the table of indexes after a target: the first index of each array stays
 abbrev pub noted : List (Option Place) → Goal → List (Option Place)
 noted table (goal.Field f) = table
 noted table (goal.State a i) = slice_set table a (option_or (slice_index_or table a None) (Some i))

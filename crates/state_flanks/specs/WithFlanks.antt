@@ -22,6 +22,7 @@ is_mentioned before a = list_any (λ m. nat_eq m.array a) before
 abbrev pub read_flank : List Mention → Mention → List FlankForm
 read_flank before m = if is_mentioned before m.array then [] else read m.array m.index ∷ []
 
+-- the read flanks of mentions after others
 abbrev pub read_flanks : List Mention → List Mention → List FlankForm
 read_flanks before [] = []
 read_flanks before (m ∷ ms) = read_flank before m ++ read_flanks (before ++ m ∷ []) ms
@@ -31,6 +32,7 @@ abbrev pub with_reads : List Mention → List StepForm → List FlankForm
 with_reads before [] = []
 with_reads before (s ∷ ss) = read_flanks before (step_mentions s) ++ (set s ∷ with_reads (before ++ step_mentions s) ss)
 
+-- the index at which a target reaches array a, if it does
 abbrev pub goal_index : ℕ → Goal → Option Place
 goal_index a (goal.Field f) = None
 goal_index a (goal.State b i) = if nat_eq b a then Some i else None

@@ -1,4 +1,4 @@
--- Expressions as statements of one operation each.
+-- Expressions as statements of one operation each. `fields` is the number of fields, and `lines` are the statements so far.
 use Rattle.std.specs.Prelude.{ℕ, ◌+◌, ◌==◌, ◌&&◌, nat_le, Bool, List, [], ◌∷◌, ◌++◌, length, slice_index_or, if◌then◌else◌}
 use Rattle.dom_words.specs.declared.operators.BinOp.{BinOp}
 use Rattle.dom_words.specs.declared.operators.BinOp.TheVariants.{Rem}
@@ -18,10 +18,11 @@ pub record AllFlattened : Type 0 where
   pub lines : List Line
   pub operands : List Operand
 
+-- an operand that needs no statement
 abbrev pub as_is : List Line → Operand → Flattened
 as_is lines o = record { lines = lines; operand = o }
 
--- one statement more: with so many fields, statement j makes value fields + j
+-- one statement more, whose value is the operand: with so many fields, statement j makes value fields + j
 abbrev pub ended : ℕ → List Line → Line → Flattened
 ended fields lines l = record { lines = lines ++ l ∷ []; operand = Value (fields + length lines) }
 
@@ -41,10 +42,12 @@ as_modulus (un o p) = 0
 as_modulus (chain p os) = 0
 as_modulus (choice c p q) = 0
 
+-- the modulus that an operator with its operand is: `%` with such a number
 abbrev pub op_modulus : BinOp → PartForm → ℕ
 op_modulus Rem p = as_modulus p
 op_modulus _ p = 0
 
+-- the modulus that the first of these operators is
 abbrev pub ops_modulus : OpForms → ℕ
 ops_modulus no_ops = 0
 ops_modulus (op o p os) = op_modulus o p
@@ -61,8 +64,8 @@ first_modulus (un o p) os = 0
 first_modulus (chain p rest) os = 0
 first_modulus (choice c p q) os = 0
 
--- An expression after the statements so far, from left to right, operands before the operator; `values` has the operand
--- that each item's value became, and a call is one hash with the modulus. Nothing is folded.
+-- An expression after the statements so far, from left to right, operands before the operator. `values` has the operand
+-- that each item's value became. A call is one hash, and takes the modulus; 0 is none. No constants are folded.
 abbrev mutual
   pub flattened : ℕ → List Operand → List Line → ℕ → PartForm → Flattened
   flattened fields values lines modulus (number w) = as_is lines (Const w)

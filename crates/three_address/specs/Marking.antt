@@ -1,4 +1,5 @@
--- How the marks of needed statements and the new numbers are found.
+-- How the marks of needed statements and the new numbers are found. Only proofs and contracts of private functions cite
+-- this.
 use Rattle.std.specs.Prelude.{ℕ, suc, ◌+◌, ◌-◌, ◌||◌, nat_lt, Bool, true, false, List, [], ◌∷◌, fold, slice_index, slice_index_or, slice_set, if◌then◌else◌}
 use Rattle.std.specs.List.{list_all}
 use Rattle.dom_flat.specs.Kept.{are_below}

@@ -49,6 +49,7 @@ count (false ∷ marks) = count marks
 abbrev pub new_number : ℕ → List Bool → ℕ → ℕ
 new_number fields marks v = if nat_lt v fields then v else fields + count (take (v - fields) marks)
 
+-- an operand with a new number for its value
 abbrev pub renumbered : (ℕ → ℕ) → Operand → Operand
 renumbered number (Const w) = Const w
 renumbered number (Value v) = Value (number v)

@@ -29,11 +29,13 @@ item_flattened fields values lines (write a i p) =
 abbrev pub draft : List Line → List Operand → Draft
 draft lines values = record { lines = lines; values = values }
 
+-- one item more
 abbrev pub with_item : ℕ → Draft → NamedForm → Draft
 with_item fields d item =
     let value = item_flattened fields d.values d.lines item in
     draft value.lines (d.values ++ value.operand ∷ [])
 
+-- the items one after another
 abbrev pub with_items : ℕ → Draft → List NamedForm → Draft
 with_items fields d items = fold (with_item fields) d items
 
@@ -61,6 +63,7 @@ numbered fields marks all = record {
 abbrev pub needed_only : ℕ → AllFlattened → AllFlattened
 needed_only fields all = numbered fields (marks_of fields all) all
 
+-- the statement list of items and outputs
 abbrev pub statements : ℕ → List NamedForm → List PartForm → AllFlattened
 statements fields items outputs = needed_only fields (all_statements fields items outputs)
 

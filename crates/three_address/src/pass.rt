@@ -72,9 +72,9 @@ fn needed_statements(
 }
 
 /// The program as a list of statements of one operation each. An expression is flattened from left to right, operands before
-/// the operator; a conditional flattens its condition, its first and its second operand. Nothing is folded. A hash whose
-/// answer is taken modulo a number from 1 to 2147483647 is one statement. Then the statements stay that are needed: write
-/// flanks, the read flanks of arrays that have one, and statements whose value an output or a needed statement uses
+/// the operator; a conditional flattens its condition, its first and its second operand. No constants are folded. A hash
+/// whose answer is taken modulo a number from 1 to 2147483647 is one statement. Then the statements stay that are needed:
+/// write flanks, the read flanks of arrays that have one, and statements whose value an output or a needed statement uses
 /// (Sivaraman et al., "Packet Transactions", SIGCOMM 2016, "Flattening to three-address code").
 pub fn flatten(alloc: Global, steps: Named) -> Result<Flat, FlatFault>
     requires few { named_nodes (map named_form steps.items) (map form steps.outputs) < 2 ^ 25 }

@@ -15,7 +15,7 @@ loop-k-preserved c =
     let later : List ℕ = c.loop-k.twins.items in
     let sum : a + (c.loop-k.k + 1) ≡ n = omega (arith, c.len-count.ensures, c.loop-k-test.true) in
     let test : c.needs_twin.result ≡ (is_inner P a && (is_used_outside P a || list_any (is_so P (uses_value (P.fields + a))) later)) =
-    c.needs_twin.ensures ∙ ap (λ (xs : List ℕ). is_inner P a && (is_used_outside P a || list_any (is_so P (uses_value (P.fields + a))) xs)) c.as_slice.ensures.value in
+    c.needs_twin.ensures ∙ ap (λ (xs : List ℕ). is_inner P a && (is_used_outside P a || list_any (is_so P (uses_value (P.fields + a))) xs)) c.as_slice-in-loop-k.ensures.value in
     let is : c.if-needs_twin.twins.items ≡ (if c.needs_twin.result then a ∷ later else later) =
     elim c.if-needs_twin.branch [
       | then-needs_twin+in_ok-add_first w ↦ ap (λ v. v.items) w.twins-is ∙ w.in_ok-add_first.ensures ∙ ap (λ (b : Bool). if b then a ∷ later else later) (sym w.if-needs_twin.true)

@@ -3,8 +3,12 @@ use Rattle.codelets.specs.ByRows.{linked_by}
 use Rattle.codelets.specs.Linked.{twins_of}
 use Rattle.codelets.specs.Lists.{IsIn}
 use Rattle.codelets.proofs.Classes.{twin_inner}
+use Rattle.codelets.proofs.Leasts.{number_below}
 use Rattle.codelets.proofs.Tables.{in_at}
 use Rattle.codelets.proofs.pieces.by_number.Goals as goal
+
+pub class_with-requires-clause-within : goal.class_with-requires-clause-within
+class_with-requires-clause-within c = number_below c.args.numbers.now (length c.args.flat.now.lines) c.loop-a.a-index c.requires.numbers c.loop-a-test.true
 
 pub overflow_add-count : goal.overflow_add-count
 overflow_add-count c =

@@ -1,24 +1,22 @@
 use Rattle.std.proofs.Common.{◌≡◌, ◌∙◌, Bool, true, false, ◌&&◌, not, length, sym, ap}
-use Rattle.std.specs.Prelude.{slice_index_or}
-use Rattle.std.specs.List.{list_any}
 use Rattle.codelets.specs.ByRows.{cut_by}
 use Rattle.codelets.specs.Cut.{line_uses}
 use Rattle.codelets.specs.Lists.{meet}
-use Rattle.codelets.proofs.MarkedUses.{marked_use}
+use Rattle.codelets.proofs.UsedNumbers.{used_use}
 use Rattle.codelets.proofs.pieces.uses_piece.Goals as goal
 
-pub returns-then-any_marked : goal.returns-then-any_marked
-returns-then-any_marked c =
+pub returns-then-meets : goal.returns-then-meets
+returns-then-meets c =
     let D = cut_by c.args.flat.now c.args.graph.now in
-    let found : list_any (λ a. slice_index_or c.args.marks.now a false) c.args.d.now ≡ true = sym c.any_marked.ensures ∙ c.if-any_marked.true in
-    ap not c.meets.ensures
+    let found : meet c.args.d.now c.args.used.now ≡ true = sym c.meets.ensures ∙ c.if-meets.true in
+    ap not c.meets-then-meets.ensures
     ∙ sym (ap (λ (b : Bool). b && not (meet c.args.c.now c.args.d.now)) found)
-    ∙ marked_use (length c.args.flat.now.fields) (line_uses D) c.args.c.now c.args.d.now c.args.marks.now c.requires.marks c.requires.small
+    ∙ used_use (length c.args.flat.now.fields) (line_uses D) c.args.c.now c.args.d.now c.args.used.now c.requires
 
-pub returns-else-any_marked : goal.returns-else-any_marked
-returns-else-any_marked c =
+pub returns-else-meets : goal.returns-else-meets
+returns-else-meets c =
     let D = cut_by c.args.flat.now c.args.graph.now in
-    let none : list_any (λ a. slice_index_or c.args.marks.now a false) c.args.d.now ≡ false = sym c.any_marked.ensures ∙ c.if-any_marked.false in
-    c.if-any_marked.false
+    let none : meet c.args.d.now c.args.used.now ≡ false = sym c.meets.ensures ∙ c.if-meets.false in
+    c.if-meets.false
     ∙ sym (ap (λ (b : Bool). b && not (meet c.args.c.now c.args.d.now)) none)
-    ∙ marked_use (length c.args.flat.now.fields) (line_uses D) c.args.c.now c.args.d.now c.args.marks.now c.requires.marks c.requires.small
+    ∙ used_use (length c.args.flat.now.fields) (line_uses D) c.args.c.now c.args.d.now c.args.used.now c.requires
