@@ -14,7 +14,7 @@ use Rattle.dom_flat.specs.declared.line.Line.TheVariants as line
 use Rattle.dom_flat.specs.Kept.{entered}
 use Rattle.dom_flat.specs.Lines.{is_flank, operands_of, with_operands}
 use Rattle.dom_flat.specs.Meaning.{operand_word, line_word, Makes, arrays_after, flat_entering, flat_outcome, values_after}
-use Rattle.dom_flat.specs.Order.{AreEarlier, AreStoredOnce}
+use Rattle.dom_flat.proofs.Order.{AreEarlier, AreStoredOnce}
 use Rattle.dom_flat.proofs.Run.{index_front, run_makes, run_arrays}
 use Rattle.dom_flat.proofs.After.{after_quiet, after_stored, length-after}
 use Rattle.dom_flat.proofs.Facts.{are_earlier, fetched_first, stored_once}

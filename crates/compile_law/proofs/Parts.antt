@@ -8,8 +8,7 @@ use Rattle.dom_flat.specs.declared.line.Operand.{Operand}
 use Rattle.dom_flat.specs.declared.line.Operand.TheVariants.{Value}
 use Rattle.dom_flat.specs.declared.line.Line.{Line}
 use Rattle.dom_flat.specs.declared.line.Line.TheVariants as line
-use Rattle.dom_flat.specs.Lines.{is_flank, stores_to, with_operands}
-use Rattle.dom_flat.specs.Order.{IsQuiet}
+use Rattle.dom_flat.specs.Lines.{IsQuiet, is_flank, stores_to, with_operands}
 use Rattle.codelets.specs.declared.held.Held.{Held}
 use Rattle.codelets.specs.Lists.{IsIn, AreDistinct, has}
 use Rattle.codelets.specs.Linked.{Linked, is_so}

@@ -9,9 +9,9 @@ use Rattle.dom_flat.specs.declared.line.Operand.{Operand}
 use Rattle.dom_flat.specs.declared.line.Line.{Line}
 use Rattle.dom_flat.specs.declared.line.Line.TheVariants as line
 use Rattle.dom_flat.specs.Flanks.{Flank, fetch, store, plain, flank_of, writes_array}
-use Rattle.dom_flat.specs.Lines.{stores_to}
+use Rattle.dom_flat.specs.Lines.{IsQuiet, stores_to}
 use Rattle.dom_flat.specs.Meaning.{operand_word, flank_arrays, line_arrays, arrays_after}
-use Rattle.dom_flat.specs.Order.{IsQuiet, StoresAlone, AreStoredOnce}
+use Rattle.dom_flat.proofs.Order.{StoresAlone, AreStoredOnce}
 
 module _ (val : ℕ → ℕ) where
   quiet_flank : (f : Flank) (arrays : List (List ℕ)) (a : ℕ) → writes_array a f ≡ false → array_of (flank_arrays f arrays val) a ≡ array_of arrays a

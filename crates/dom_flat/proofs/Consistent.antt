@@ -7,7 +7,7 @@ use Rattle.dom_flat.specs.Kept.{are_after, are_below, are_flanked, are_known, en
 use Rattle.dom_flat.specs.Laws.{RunIsConsistent, outcome_by}
 use Rattle.dom_flat.specs.Lines.{makes}
 use Rattle.dom_flat.specs.Meaning.{Makes, flat_entering, flat_outcome, operand_word, values_after}
-use Rattle.dom_flat.specs.Order.{AreEarlier}
+use Rattle.dom_flat.proofs.Order.{AreEarlier}
 use Rattle.dom_flat.proofs.After.{after_quiet, after_stored}
 use Rattle.dom_flat.proofs.Facts.{all_known_below, are_earlier, fetched_first, stored_once}
 use Rattle.dom_flat.proofs.Run.{arrays_after-same, made_alike, operands_earlier, run_arrays, run_makes, words_same}

@@ -8,9 +8,9 @@ use Rattle.dom_flat.specs.declared.line.Operand.{Operand}
 use Rattle.dom_flat.specs.declared.line.Operand.TheVariants.{Const, Value}
 use Rattle.dom_flat.specs.declared.line.Line.{Line}
 use Rattle.dom_flat.specs.Flanks.{Flank, fetch, store, plain, flank_of, writes_array}
-use Rattle.dom_flat.specs.Lines.{makes, operands_of}
+use Rattle.dom_flat.specs.Lines.{IsQuiet, makes, operands_of}
 use Rattle.dom_flat.specs.Kept.{is_below, are_below, is_known, are_known, are_after, is_same, Read, is_read, is_read_at, is_written, may_stand, reads_after, writes_after, are_flanked}
-use Rattle.dom_flat.specs.Order.{AreEarlier, Clears, AreFetchedFirst, IsQuiet, StoresAlone, AreStoredOnce}
+use Rattle.dom_flat.proofs.Order.{AreEarlier, Clears, AreFetchedFirst, StoresAlone, AreStoredOnce}
 
 -- a value that is there has a number below theirs
 pub known_below : (values : List Bool) (o : Operand) → is_known values o ≡ true → is_below (length values) o ≡ true

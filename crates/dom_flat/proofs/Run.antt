@@ -14,7 +14,7 @@ use Rattle.dom_flat.specs.Flanks.{Flank, fetch, store, plain, flank_of}
 use Rattle.dom_flat.specs.Lines.{makes, operands_of, with_operands}
 use Rattle.dom_flat.specs.Kept.{is_below, are_below}
 use Rattle.dom_flat.specs.Meaning.{operand_word, line_word, flank_arrays, line_arrays, FlatEnv, line_step, run_lines, values_after, flat_entering, arrays_after, Makes}
-use Rattle.dom_flat.specs.Order.{AreEarlier, Clears, AreFetchedFirst}
+use Rattle.dom_flat.proofs.Order.{AreEarlier, Clears, AreFetchedFirst}
 use Rattle.dom_flat.proofs.After.{sizes-flank}
 
 -- an element of a joined list

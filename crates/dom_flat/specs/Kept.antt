@@ -11,12 +11,8 @@ use Rattle.dom_flat.specs.Lines.{makes, operands_of}
 
 -- a hash has as many arguments as its unit says
 abbrev pub has_its_args : Line → Bool
-has_its_args (line.Fetch array i) = true
-has_its_args (line.Store array i value) = true
-has_its_args (line.Un op a) = true
-has_its_args (line.Bin op a b) = true
-has_its_args (line.Cond c a b) = true
 has_its_args (line.Hash unit modulus args) = nat_eq (length args) unit.args
+has_its_args _ = true
 
 -- the array of a flank is one of so many
 abbrev pub has_array : ℕ → Line → Bool
@@ -24,12 +20,8 @@ has_array arrays l = is_array_below arrays (flank_of l)
 
 -- a hash has a modulus of at most 2147483647
 abbrev pub has_small_modulus : Line → Bool
-has_small_modulus (line.Fetch array i) = true
-has_small_modulus (line.Store array i value) = true
-has_small_modulus (line.Un op a) = true
-has_small_modulus (line.Bin op a b) = true
-has_small_modulus (line.Cond c a b) = true
 has_small_modulus (line.Hash unit modulus args) = nat_le modulus 2147483647
+has_small_modulus _ = true
 
 abbrev pub have_small_moduli : List Line → Bool
 have_small_moduli lines = list_all has_small_modulus lines

@@ -8,9 +8,8 @@ use Rattle.dom_flat.specs.declared.line.Operand.TheVariants.{Const}
 use Rattle.dom_flat.specs.declared.line.Line.{Line}
 use Rattle.dom_flat.specs.declared.line.Line.TheVariants as line
 use Rattle.dom_flat.specs.Form.{FlatForm}
-use Rattle.dom_flat.specs.Lines.{makes, operands_of, uses}
+use Rattle.dom_flat.specs.Lines.{IsQuiet, makes, operands_of, uses}
 use Rattle.dom_flat.specs.Meaning.{Makes, arrays_after, flat_entering, flat_outcome, operand_word, values_after}
-use Rattle.dom_flat.specs.Order.{IsQuiet}
 
 -- statement a is there and makes a value
 pub record IsMaker (lines : List Line) (a : ℕ) : Type 0 where

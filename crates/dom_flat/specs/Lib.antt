@@ -4,4 +4,3 @@ pub mod Kept
 pub mod Laws
 pub mod Lines
 pub mod Meaning
-pub mod Order

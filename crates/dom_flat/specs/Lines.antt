@@ -1,6 +1,6 @@
 -- What statements use and make.
-use Rattle.std.specs.Prelude.{ℕ, Bool, false, not, ◌||◌, nat_eq, List, [], ◌∷◌, map}
-use Rattle.std.specs.List.{list_any}
+use Rattle.std.specs.Prelude.{◌≡◌, ℕ, Bool, false, not, ◌||◌, nat_eq, List, [], ◌∷◌, map}
+use Rattle.std.specs.List.{AllByRecursion, list_any}
 use Rattle.dom_flat.specs.declared.line.Operand.{Operand}
 use Rattle.dom_flat.specs.declared.line.Operand.TheVariants.{Const, Value}
 use Rattle.dom_flat.specs.declared.line.Line.{Line}
@@ -49,6 +49,10 @@ makes l = not (is_write_flank (flank_of l))
 -- the write flank of this array
 abbrev pub stores_to : ℕ → Line → Bool
 stores_to a l = writes_array a (flank_of l)
+
+-- no statement writes this array
+abbrev pub IsQuiet : ℕ → List Line → Type 0
+IsQuiet a lines = AllByRecursion (λ l. stores_to a l ≡ false) lines
 
 -- a write flank that writes this value
 abbrev pub writes_value : ℕ → Flank → Bool

@@ -11,7 +11,7 @@ use Rattle.dom_flat.specs.declared.line.Line.TheVariants as line
 use Rattle.dom_flat.specs.Kept.{are_after, are_below, are_known, entered, is_below, values_of}
 use Rattle.dom_flat.specs.Lines.{is_value, operands_of, uses}
 use Rattle.dom_flat.specs.Meaning.{FlatEnv, flat_entering, flat_outcome, line_arrays, line_step, line_word, operand_word, run_lines}
-use Rattle.dom_flat.specs.Order.{AreEarlier}
+use Rattle.dom_flat.proofs.Order.{AreEarlier}
 use Rattle.dom_flat.proofs.Facts.{all_known_below, are_earlier}
 use Rattle.dom_flat.proofs.Run.{HaveWords, length_run, line_arrays-with, line_word-with, words-with}
 use Rattle.three_address.specs.Needs.{is_kept_flank, is_used, kept, line_renumbered, needed, new_number, renumbered}

@@ -10,7 +10,7 @@ use Rattle.dom_flat.specs.declared.line.Line.{Line}
 use Rattle.dom_flat.specs.declared.line.Line.TheVariants as line
 use Rattle.dom_flat.specs.Kept.{are_after, are_below, entered, has_array, has_its_args, is_below, lines_within}
 use Rattle.dom_flat.specs.Lines.{is_value, operands_of, stores_to, uses}
-use Rattle.dom_flat.specs.Order.{AreEarlier}
+use Rattle.dom_flat.proofs.Order.{AreEarlier}
 use Rattle.dom_flat.proofs.Facts.{are_earlier}
 use Rattle.three_address.specs.Marking.{all_marked, is_marked_flank, marked, store_marked, swept, swept_one}
 use Rattle.three_address.specs.Needs.{is_kept_flank, is_stored, is_used, kept, needed}

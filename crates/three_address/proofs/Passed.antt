@@ -6,7 +6,7 @@ use Rattle.dom_ast.specs.Resolved.{PartForm}
 use Rattle.dom_flat.specs.declared.line.Operand.{Operand}
 use Rattle.dom_flat.specs.declared.line.Line.{Line}
 use Rattle.dom_flat.specs.Kept.{are_after, are_below, are_flanked, are_known, entered, have_small_moduli, lines_within, values_of}
-use Rattle.dom_flat.specs.Order.{AreEarlier}
+use Rattle.dom_flat.proofs.Order.{AreEarlier}
 use Rattle.dom_flat.proofs.Facts.{all_known_below, are_earlier}
 use Rattle.three_address.specs.Flattening.{AllFlattened}
 use Rattle.three_address.specs.Marking.{lines_below, number_in, numbers_from}

@@ -1,10 +1,10 @@
--- What follows from the order of a statement list. Of this, contracts cite `IsQuiet` alone.
-use Rattle.std.specs.Prelude.{◌≡◌, ℕ, suc, true, false, List, [], ◌∷◌, ⊤, ◌≢◌}
+-- What follows from the order of a statement list.
+use Rattle.std.specs.Prelude.{◌≡◌, ℕ, suc, true, List, [], ◌∷◌, ⊤, ◌≢◌}
 use Rattle.std.specs.List.{AllByRecursion}
 use Rattle.dom_flat.specs.declared.line.Line.{Line}
 use Rattle.dom_flat.specs.Flanks.{Flank, fetch, store, plain, flank_of}
 use Rattle.dom_flat.specs.Kept.{are_below}
-use Rattle.dom_flat.specs.Lines.{operands_of, stores_to}
+use Rattle.dom_flat.specs.Lines.{IsQuiet, operands_of}
 
 -- each statement uses values before its own; n is the number of the first statement's value
 abbrev pub AreEarlier : ℕ → List Line → Type 0
@@ -23,10 +23,6 @@ Clears plain f = ⊤
 abbrev pub AreFetchedFirst : List Line → Type 0
 AreFetchedFirst [] = ⊤
 AreFetchedFirst (l ∷ lines) = AllByRecursion (λ m. Clears (flank_of l) (flank_of m)) lines × AreFetchedFirst lines
-
--- no statement writes this array
-abbrev pub IsQuiet : ℕ → List Line → Type 0
-IsQuiet a lines = AllByRecursion (λ l. stores_to a l ≡ false) lines
 
 -- no statement writes the array of a write flank
 abbrev pub StoresAlone : Flank → List Line → Type 0
