@@ -3,11 +3,8 @@ use Rattle.std.specs.Prelude.{ℕ, List, [], ◌∷◌, codes, map}
 use Rattle.trace_text.specs.Lines.{count_text, line_of}
 use Rattle.trace_text.specs.declared.trace.TraceFault.{TraceFault}
 use Rattle.trace_text.specs.declared.trace.TraceFault.TheVariants as trace
-use Rattle.dom_lexer.specs.declared.token.LexFault.{LexFault}
 use Rattle.dom_lexer.specs.declared.token.LexFault.TheVariants as lex
-use Rattle.dom_parser.specs.declared.faults.ParseFault.{ParseFault}
 use Rattle.dom_parser.specs.declared.faults.ParseFault.TheVariants as parse
-use Rattle.dom_checks.specs.declared.faults.CheckFault.{CheckFault}
 use Rattle.dom_checks.specs.declared.faults.CheckFault.TheVariants as check
 use Rattle.dom_checks.specs.declared.faults.Limit.TheVariants as limit
 use Rattle.trace_text.specs.Trace as told
@@ -27,34 +24,29 @@ use Rattle.dom_finding.specs.declared.refusals.Refusal.TheVariants as refusal
 abbrev pub placed : List ℕ → List ℕ → List ℕ
 placed words numbers = line_of (words ∷ map count_text numbers)
 
--- The lines of faults. Want of memory has none.
-
-abbrev pub lex_line : LexFault → List ℕ
-lex_line (lex.BadByte at) = placed (codes "refused,lex,bad-byte") (at ∷ [])
-lex_line (lex.OpenComment at) = placed (codes "refused,lex,open-comment") (at ∷ [])
-lex_line (lex.BigLiteral at) = placed (codes "refused,lex,big-literal") (at ∷ [])
-lex_line (lex.TooManyTokens at) = placed (codes "refused,lex,too-many-tokens") (at ∷ [])
-lex_line lex.Memory = []
-
-abbrev pub parse_line : ParseFault → List ℕ
-parse_line (parse.Forbidden at) = placed (codes "refused,parse,forbidden") (at ∷ [])
-parse_line (parse.Unexpected at) = placed (codes "refused,parse,unexpected") (at ∷ [])
-parse_line (parse.TooNested at) = placed (codes "refused,parse,too-nested") (at ∷ [])
-parse_line parse.Memory = []
-
-abbrev pub check_line : CheckFault → List ℕ
-check_line (check.Twice at) = placed (codes "refused,check,twice") (at ∷ [])
-check_line (check.UnknownName at) = placed (codes "refused,check,unknown-name") (at ∷ [])
-check_line (check.ShapeOfName at) = placed (codes "refused,check,shape-of-name") (at ∷ [])
-check_line (check.BadIndex at) = placed (codes "refused,check,bad-index") (at ∷ [])
-check_line (check.TwoIndexes at) = placed (codes "refused,check,two-indexes") (at ∷ [])
-check_line (check.IndexAssignedLater at) = placed (codes "refused,check,index-assigned-later") (at ∷ [])
-check_line (check.HashArgs at) = placed (codes "refused,check,hash-args") (at ∷ [])
-check_line (check.TooLarge limit.Fields at) = placed (codes "refused,check,too-large-fields") (at ∷ [])
-check_line (check.TooLarge limit.Arrays at) = placed (codes "refused,check,too-large-arrays") (at ∷ [])
-check_line (check.TooLarge limit.Length at) = placed (codes "refused,check,too-large-length") (at ∷ [])
-check_line (check.TooLarge limit.Words at) = placed (codes "refused,check,too-large-words") (at ∷ [])
-check_line check.Memory = []
+-- what is put of a program's first fault; want of memory is told in another way
+abbrev pub program_line : ProgramFault → List ℕ
+program_line (of_bytes (lex.BadByte at)) = placed (codes "refused,lex,bad-byte") (at ∷ [])
+program_line (of_bytes (lex.OpenComment at)) = placed (codes "refused,lex,open-comment") (at ∷ [])
+program_line (of_bytes (lex.BigLiteral at)) = placed (codes "refused,lex,big-literal") (at ∷ [])
+program_line (of_bytes (lex.TooManyTokens at)) = placed (codes "refused,lex,too-many-tokens") (at ∷ [])
+program_line (of_bytes lex.Memory) = []
+program_line (of_tokens (parse.Forbidden at)) = placed (codes "refused,parse,forbidden") (at ∷ [])
+program_line (of_tokens (parse.Unexpected at)) = placed (codes "refused,parse,unexpected") (at ∷ [])
+program_line (of_tokens (parse.TooNested at)) = placed (codes "refused,parse,too-nested") (at ∷ [])
+program_line (of_tokens parse.Memory) = []
+program_line (of_names (check.Twice at)) = placed (codes "refused,check,twice") (at ∷ [])
+program_line (of_names (check.UnknownName at)) = placed (codes "refused,check,unknown-name") (at ∷ [])
+program_line (of_names (check.ShapeOfName at)) = placed (codes "refused,check,shape-of-name") (at ∷ [])
+program_line (of_names (check.BadIndex at)) = placed (codes "refused,check,bad-index") (at ∷ [])
+program_line (of_names (check.TwoIndexes at)) = placed (codes "refused,check,two-indexes") (at ∷ [])
+program_line (of_names (check.IndexAssignedLater at)) = placed (codes "refused,check,index-assigned-later") (at ∷ [])
+program_line (of_names (check.HashArgs at)) = placed (codes "refused,check,hash-args") (at ∷ [])
+program_line (of_names (check.TooLarge limit.Fields at)) = placed (codes "refused,check,too-large-fields") (at ∷ [])
+program_line (of_names (check.TooLarge limit.Arrays at)) = placed (codes "refused,check,too-large-arrays") (at ∷ [])
+program_line (of_names (check.TooLarge limit.Length at)) = placed (codes "refused,check,too-large-length") (at ∷ [])
+program_line (of_names (check.TooLarge limit.Words at)) = placed (codes "refused,check,too-large-words") (at ∷ [])
+program_line (of_names check.Memory) = []
 
 abbrev pub kind_text : Kind → List ℕ
 kind_text Stateless = codes "stateless"
@@ -99,9 +91,9 @@ words_line = codes "refused,words\n"
 
 abbrev pub refusal_line : Refusal → List ℕ
 refusal_line refusal.ProgramLimit = placed (codes "refused,limit,program") []
-refusal_line (refusal.Lex fault) = lex_line fault
-refusal_line (refusal.Parse fault) = parse_line fault
-refusal_line (refusal.Check fault) = check_line fault
+refusal_line (refusal.Lex fault) = program_line (of_bytes fault)
+refusal_line (refusal.Parse fault) = program_line (of_tokens fault)
+refusal_line (refusal.Check fault) = program_line (of_names fault)
 refusal_line (refusal.Statements n) = placed (codes "refused,statements") (n ∷ [])
 refusal_line (refusal.Outside codelet) = placed (codes "refused,outside") (codelet ∷ [])
 refusal_line (refusal.Deep chain) = placed (codes "refused,deep") chain
@@ -131,20 +123,7 @@ refusal_status (refusal.Statements n) = 1
 refusal_status (refusal.Outside codelet) = 1
 refusal_status (refusal.Deep chain) = 1
 refusal_status (refusal.Full codelet kind stage) = 1
-refusal_status refusal.ConfigLimit = 3
-refusal_status (refusal.ConfigLine n) = 3
-refusal_status refusal.UnknownTarget = 3
-refusal_status (refusal.Config kind stage atom) = 3
-refusal_status (refusal.Stage depth) = 3
-refusal_status refusal.Rank = 3
-refusal_status refusal.TraceLimit = 3
-refusal_status (refusal.Trace fault) = 3
-refusal_status refusal.EventsLimit = 3
-refusal_status (refusal.Events n) = 3
-refusal_status refusal.PlanLimit = 3
-refusal_status (refusal.PlanLine n) = 3
-refusal_status (refusal.PlanEarly codelet used) = 3
-refusal_status (refusal.PlanWide stage kind) = 3
+refusal_status _ = 3
 
 -- The refusal of what a text is not.
 

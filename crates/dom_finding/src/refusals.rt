@@ -1,6 +1,7 @@
 ghost use Rattle.std.specs.Prelude.{◌≡◌, ◌<◌, ◌++◌, ◌∷◌, [], IfOk, OnOk, codes, length, map};
 ghost use Rattle.trace_text.specs.Lines.{after_commas, count_text};
-ghost use Rattle.dom_finding.specs.Refusals.{check_line as line_of_check, full_line as line_of_full, kind_text, lex_line as line_of_lex, parse_line as line_of_parse, placed, rule_line as line_of_rule, rule_text, refusal_line, refusal_status, trace_line as line_of_trace, wide_line as line_of_wide};
+ghost use Rattle.dom_compile.specs.Verdict.{of_bytes, of_names, of_tokens};
+ghost use Rattle.dom_finding.specs.Refusals.{full_line as line_of_full, kind_text, placed, program_line, rule_line as line_of_rule, rule_text, refusal_line, refusal_status, trace_line as line_of_trace, wide_line as line_of_wide};
 
 use banzai_config::ConfigKind;
 use codelets::Kind;
@@ -158,7 +159,7 @@ impl Refusal {
 }
 
 fn lex_line(alloc: Global, fault: LexFault) -> Result<Vec<u8>, Memory>
-    ensures line { IfOk result (λ line. line.items ≡ line_of_lex fault) }
+    ensures line { IfOk result (λ line. line.items ≡ program_line (of_bytes fault)) }
     ensures some { IfOk result (λ line. 0 < length line.items) }
 {
     let (words, at) = match fault {
@@ -172,7 +173,7 @@ fn lex_line(alloc: Global, fault: LexFault) -> Result<Vec<u8>, Memory>
 }
 
 fn parse_line(alloc: Global, fault: ParseFault) -> Result<Vec<u8>, Memory>
-    ensures line { IfOk result (λ line. line.items ≡ line_of_parse fault) }
+    ensures line { IfOk result (λ line. line.items ≡ program_line (of_tokens fault)) }
     ensures some { IfOk result (λ line. 0 < length line.items) }
 {
     let (words, at) = match fault {
@@ -185,7 +186,7 @@ fn parse_line(alloc: Global, fault: ParseFault) -> Result<Vec<u8>, Memory>
 }
 
 fn check_line(alloc: Global, fault: CheckFault) -> Result<Vec<u8>, Memory>
-    ensures line { IfOk result (λ line. line.items ≡ line_of_check fault) }
+    ensures line { IfOk result (λ line. line.items ≡ program_line (of_names fault)) }
     ensures some { IfOk result (λ line. 0 < length line.items) }
 {
     let (words, at) = match fault {
@@ -203,7 +204,7 @@ fn check_line(alloc: Global, fault: CheckFault) -> Result<Vec<u8>, Memory>
 }
 
 fn too_large_line(alloc: Global, limit: Limit, at: u32) -> Result<Vec<u8>, Memory>
-    ensures line { IfOk result (λ line. line.items ≡ line_of_check (CheckFault.TooLarge limit at)) }
+    ensures line { IfOk result (λ line. line.items ≡ program_line (of_names (CheckFault.TooLarge limit at))) }
     ensures some { IfOk result (λ line. 0 < length line.items) }
 {
     let words = match limit {
