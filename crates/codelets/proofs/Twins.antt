@@ -8,7 +8,7 @@ use Rattle.dom_flat.specs.declared.line.Operand.{Operand}
 use Rattle.dom_flat.specs.declared.line.Operand.TheVariants.{Const, Value}
 use Rattle.dom_flat.specs.declared.line.Line.{Line}
 use Rattle.dom_flat.specs.Lines.{operands_of, with_operands}
-use Rattle.dom_flat.specs.Meaning.{operand_word, line_word, Makes}
+use Rattle.dom_flat.specs.Meaning.{operand_word, line_word, HoldTogether}
 use Rattle.dom_flat.proofs.Run.{line_word-with}
 use Rattle.codelets.specs.Lists.{IsIn, has}
 use Rattle.codelets.specs.Linked.{Linked, IsLinked, count, together}
@@ -67,7 +67,7 @@ module _ (D : Cut) (val : ℕ → ℕ) where
   each_word f each (o ∷ os) below = (each o (λ u is. below u (inl (sym is))), each_word f each os (λ u i. below u (inr i)))
 
   -- with a twin's word that of its original, each statement, twins included, makes its word of the others: for any twins
-  line_makes : (hash : Hash) (arrays : List (List ℕ)) (packet : List ℕ) → length packet ≡ D.linked.fields → Makes hash D.linked.lines arrays packet val
+  line_makes : (hash : Hash) (arrays : List (List ℕ)) (packet : List ℕ) → length packet ≡ D.linked.fields → HoldTogether hash D.linked.lines arrays packet val
       → ((j u : ℕ) (l : Line) → slice_get D.linked.lines j ≡ Some l → IsIn (Value u) (operands_of l) → u < D.linked.fields + j)
       → (b : ℕ) (l : Line) → line_of D b ≡ Some l → ext (D.linked.fields + b) ≡ line_word hash l arrays ext
   line_makes hash arrays packet size makes before b l e = by_case (nat_lt b (count D.linked)) refl e
@@ -104,6 +104,6 @@ module _ (D : Cut) (val : ℕ → ℕ) where
           ap ext at ∙ ext_high (D.linked.fields + (b - count D.linked)) lo ∙ r.1
 
 -- the law of lines
-pub line_law : (P : Linked) → IsLinked P → (hash : Hash) (arrays : List (List ℕ)) (packet : List ℕ) (val : ℕ → ℕ) → length packet ≡ P.fields → Makes hash P.lines arrays packet val
+pub line_law : (P : Linked) → IsLinked P → (hash : Hash) (arrays : List (List ℕ)) (packet : List ℕ) (val : ℕ → ℕ) → length packet ≡ P.fields → HoldTogether hash P.lines arrays packet val
     → (b : ℕ) (l : Line) → line_of (cut P) b ≡ Some l → extended P.fields (count P) val (P.fields + b) ≡ line_word hash l arrays (extended P.fields (count P) val)
 line_law P ok hash arrays packet val size makes = line_makes (cut P) val hash arrays packet size makes (used_before P ok)

@@ -7,7 +7,7 @@ use Rattle.dom_flat.specs.declared.line.Operand.TheVariants.{Const, Value}
 use Rattle.dom_flat.specs.declared.line.Line.{Line}
 use Rattle.dom_flat.specs.declared.line.Line.TheVariants as line
 use Rattle.dom_flat.specs.Lines.{is_flank, operands_of, stores_to}
-use Rattle.dom_flat.specs.Meaning.{line_word, Makes}
+use Rattle.dom_flat.specs.Meaning.{line_word, HoldTogether}
 use Rattle.codelets.specs.Lists.{AreApart, AreDistinct, IsIn}
 use Rattle.codelets.specs.Linked.{Linked, count}
 use Rattle.codelets.specs.Cut.{cut, has_flank, in_order, level, line_of, outer, seen_by, uses_codelet}
@@ -79,7 +79,7 @@ module _ (P : Linked) where
   -- the laws
   pub record CodeletLaws : Type 0 where
     -- with a twin's word that of its original, each statement, twins included, makes its word
-    pub lines : (hash : Hash) (arrays : List (List ℕ)) (packet : List ℕ) (val : ℕ → ℕ) → length packet ≡ P.fields → Makes hash P.lines arrays packet val
+    pub lines : (hash : Hash) (arrays : List (List ℕ)) (packet : List ℕ) (val : ℕ → ℕ) → length packet ≡ P.fields → HoldTogether hash P.lines arrays packet val
         → (b : ℕ) (l : Line) → line_of (cut P) b ≡ Some l → extended P.fields (count P) val (P.fields + b) ≡ line_word hash l arrays (extended P.fields (count P) val)
     pub single : (c : List ℕ) → IsIn c (cut P).all → has_flank (cut P) c ≡ false → IsSingle P c
     pub sources : (c : List ℕ) (b : ℕ) (l : Line) (o : Operand) → IsIn c (cut P).all → IsIn b c → line_of (cut P) b ≡ Some l → IsIn o (operands_of l) → Source c o

@@ -13,7 +13,7 @@ use Rattle.dom_flat.specs.declared.line.Line.{Line}
 use Rattle.dom_flat.specs.declared.line.Line.TheVariants as line
 use Rattle.dom_flat.specs.Kept.{entered}
 use Rattle.dom_flat.specs.Lines.{is_flank, operands_of, with_operands}
-use Rattle.dom_flat.specs.Meaning.{operand_word, line_word, Makes, arrays_after, flat_entering, flat_outcome, values_after}
+use Rattle.dom_flat.specs.Meaning.{operand_word, line_word, HoldTogether, arrays_after, flat_entering, flat_outcome, values_after}
 use Rattle.dom_flat.proofs.Order.{AreEarlier, AreStoredOnce}
 use Rattle.dom_flat.proofs.Run.{index_front, run_makes, run_arrays}
 use Rattle.dom_flat.proofs.After.{after_quiet, after_stored, length-after}
@@ -114,7 +114,7 @@ module _ (P : Linked) (ok : IsLinked P) (hash : Hash) (before : Arrays) (packet 
   once : AreStoredOnce P.lines
   once = stored_once [] [] P.lines ok.flanks
 
-  makes : Makes hash P.lines before packet base
+  makes : HoldTogether hash P.lines before packet base
   makes = run_makes hash P.lines packet before earlier (fetched_first [] [] P.lines ok.flanks)
 
   law : (b : ℕ) (l : Line) → line_of (cut P) b ≡ Some l → val (P.fields + b) ≡ line_word hash l before val

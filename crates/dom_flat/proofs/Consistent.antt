@@ -6,7 +6,7 @@ use Rattle.dom_flat.specs.Form.{FlatForm}
 use Rattle.dom_flat.specs.Kept.{are_after, are_below, are_flanked, are_known, entered, values_of}
 use Rattle.dom_flat.specs.Laws.{RunIsConsistent, outcome_by}
 use Rattle.dom_flat.specs.Lines.{makes}
-use Rattle.dom_flat.specs.Meaning.{Makes, flat_entering, flat_outcome, operand_word, values_after}
+use Rattle.dom_flat.specs.Meaning.{HoldTogether, flat_entering, flat_outcome, operand_word, values_after}
 use Rattle.dom_flat.proofs.Order.{AreEarlier}
 use Rattle.dom_flat.proofs.After.{after_quiet, after_stored}
 use Rattle.dom_flat.proofs.Facts.{all_known_below, are_earlier, fetched_first, stored_once}
@@ -32,14 +32,14 @@ module _ (f : FlatForm) (order : are_after (entered f.fields) f.lines ≡ true) 
     earlier_here : AreEarlier (length packet) f.lines
     earlier_here = subst (λ (n : ℕ). AreEarlier n f.lines) (sym fits) earlier
 
-    run_made : Makes hash f.lines state packet run
+    run_made : HoldTogether hash f.lines state packet run
     run_made = run_makes hash f.lines packet state earlier_here (fetched_first [] [] f.lines flanks)
 
-    run_same : (val : ℕ → ℕ) → Makes hash f.lines state packet val → (v : ℕ) → v < f.fields + length f.lines → val v ≡ run v
+    run_same : (val : ℕ → ℕ) → HoldTogether hash f.lines state packet val → (v : ℕ) → v < f.fields + length f.lines → val v ≡ run v
     run_same val m v h =
         made_alike hash f.lines packet state val run earlier_here m run_made (v + 1) v (omega arith) (omega arith)
 
-    run_outcome : (val : ℕ → ℕ) → Makes hash f.lines state packet val → flat_outcome hash f.lines f.outputs packet state ≡ outcome_by f state val
+    run_outcome : (val : ℕ → ℕ) → HoldTogether hash f.lines state packet val → flat_outcome hash f.lines f.outputs packet state ≡ outcome_by f state val
     run_outcome val m =
         let agree = operands_earlier (f.fields + length f.lines) run val (λ v h. sym (run_same val m v h)) f.outputs outputs_below in
         ap (λ (ws : List ℕ). outcome ws (flat_outcome hash f.lines f.outputs packet state).arrays) (words_same run val f.outputs agree)

@@ -11,7 +11,8 @@ use Rattle.dom_flat.specs.declared.line.Line.{Line}
 use Rattle.dom_flat.specs.declared.line.Line.TheVariants as line
 use Rattle.dom_flat.specs.Flanks.{flank_of}
 use Rattle.dom_flat.specs.Lines.{is_value, makes, operands_of, uses}
-use Rattle.dom_flat.specs.Kept.{is_known, are_known, are_after, entered, values_of, is_same, Read, is_read, is_read_at, is_written, may_stand, reads_after, writes_after, are_flanked, has_array, has_its_args, lines_within}
+use Rattle.dom_words.specs.Order.{Access, is_read, is_read_at, is_written, may_stand, reads_after, writes_after}
+use Rattle.dom_flat.specs.Kept.{is_known, are_known, are_after, entered, values_of, is_same, are_flanked, has_array, has_its_args, lines_within, event_of}
 use Rattle.dom_flat.specs.Laws.{IsMaker, IsFetchedBefore}
 use Rattle.dom_flat.proofs.Facts.{same_operand, still_read, still_written, flanked_first, flanked_rest}
 
@@ -103,62 +104,62 @@ module _ (fields : ℕ) (lines : List Line) where
       let size : length (entered fields) ≡ fields = length-replicate fields true in
       made_there (entered fields) lines a (ap (λ (n : ℕ). slice_index_or (values_of fields lines) (n + a) false) size ∙ known_used (values_of fields lines) outputs (fields + a) known i)
 
-now_read : (a : ℕ) (i : Operand) (l : Line) (reads : List Read) → l ≡ line.Fetch a i → is_read (reads_after (flank_of l) reads) a ≡ true
+now_read : (a : ℕ) (i : Operand) (l : Line) (reads : List (Access Operand)) → l ≡ line.Fetch a i → is_read (reads_after (event_of (flank_of l)) reads) a ≡ true
 now_read a i l reads is =
-    subst (λ (m : Line). is_read (reads_after (flank_of m) reads) a ≡ true) (sym is) (or_left (nat_eq a a) (is_read reads a) (eq-eqb a a refl))
+    subst (λ (m : Line). is_read (reads_after (event_of (flank_of m)) reads) a ≡ true) (sym is) (or_left (nat_eq a a) (is_read reads a) (eq-eqb a a refl))
 
-now_written : (a : ℕ) (i v : Operand) (l : Line) (writes : List ℕ) → l ≡ line.Store a i v → is_written (writes_after (flank_of l) writes) a ≡ true
+now_written : (a : ℕ) (i v : Operand) (l : Line) (writes : List ℕ) → l ≡ line.Store a i v → is_written (writes_after (event_of (flank_of l)) writes) a ≡ true
 now_written a i v l writes is =
-    subst (λ (m : Line). is_written (writes_after (flank_of m) writes) a ≡ true) (sym is) (or_left (nat_eq a a) (is_written writes a) (eq-eqb a a refl))
+    subst (λ (m : Line). is_written (writes_after (event_of (flank_of m)) writes) a ≡ true) (sym is) (or_left (nat_eq a a) (is_written writes a) (eq-eqb a a refl))
 
 -- what has been read is not read again
-no_fetch : (lines : List Line) (reads : List Read) (writes : List ℕ) (k a : ℕ) (i : Operand) → are_flanked reads writes lines ≡ true → is_read reads a ≡ true → slice_get lines k ≡ Some (line.Fetch a i) → ⊥
+no_fetch : (lines : List Line) (reads : List (Access Operand)) (writes : List ℕ) (k a : ℕ) (i : Operand) → are_flanked reads writes lines ≡ true → is_read reads a ≡ true → slice_get lines k ≡ Some (line.Fetch a i) → ⊥
 no_fetch [] reads writes k a i e r at = absurd (cc)
 no_fetch (l ∷ lines) reads writes zero a i e r at =
     let is : l ≡ line.Fetch a i = cc in
-    let here : not (is_read reads a) ≡ true = subst (λ (m : Line). may_stand reads writes (flank_of m) ≡ true) is (flanked_first reads writes l lines e) in
+    let here : not (is_read reads a) ≡ true = subst (λ (m : Line). may_stand is_same reads writes (event_of (flank_of m)) ≡ true) is (flanked_first reads writes l lines e) in
     let none : is_read reads a ≡ false = not-true (is_read reads a) here in
     absurd (cc (none, r))
 no_fetch (l ∷ lines) reads writes (suc k) a i e r at =
-    no_fetch lines (reads_after (flank_of l) reads) (writes_after (flank_of l) writes) k a i (flanked_rest reads writes l lines e) (still_read (flank_of l) reads a r) at
+    no_fetch lines (reads_after (event_of (flank_of l)) reads) (writes_after (event_of (flank_of l)) writes) k a i (flanked_rest reads writes l lines e) (still_read (flank_of l) reads a r) at
 
-no_store : (lines : List Line) (reads : List Read) (writes : List ℕ) (k a : ℕ) (i v : Operand) → are_flanked reads writes lines ≡ true → is_written writes a ≡ true → slice_get lines k ≡ Some (line.Store a i v) → ⊥
+no_store : (lines : List Line) (reads : List (Access Operand)) (writes : List ℕ) (k a : ℕ) (i v : Operand) → are_flanked reads writes lines ≡ true → is_written writes a ≡ true → slice_get lines k ≡ Some (line.Store a i v) → ⊥
 no_store [] reads writes k a i v e r at = absurd (cc)
 no_store (l ∷ lines) reads writes zero a i v e r at =
     let is : l ≡ line.Store a i v = cc in
-    let here : (is_read_at reads a i && not (is_written writes a)) ≡ true = subst (λ (m : Line). may_stand reads writes (flank_of m) ≡ true) is (flanked_first reads writes l lines e) in
-    let none : is_written writes a ≡ false = not-true (is_written writes a) (and_parts (is_read_at reads a i) (not (is_written writes a)) here).1 in
+    let here : (is_read_at is_same reads a i && not (is_written writes a)) ≡ true = subst (λ (m : Line). may_stand is_same reads writes (event_of (flank_of m)) ≡ true) is (flanked_first reads writes l lines e) in
+    let none : is_written writes a ≡ false = not-true (is_written writes a) (and_parts (is_read_at is_same reads a i) (not (is_written writes a)) here).1 in
     absurd (cc (none, r))
 no_store (l ∷ lines) reads writes (suc k) a i v e r at =
-    no_store lines (reads_after (flank_of l) reads) (writes_after (flank_of l) writes) k a i v (flanked_rest reads writes l lines e) (still_written (flank_of l) writes a r) at
+    no_store lines (reads_after (event_of (flank_of l)) reads) (writes_after (event_of (flank_of l)) writes) k a i v (flanked_rest reads writes l lines e) (still_written (flank_of l) writes a r) at
 
 -- two read flanks of one array are the same
-pub one_fetch : (lines : List Line) (reads : List Read) (writes : List ℕ) (j k a : ℕ) (i i' : Operand) → are_flanked reads writes lines ≡ true
+pub one_fetch : (lines : List Line) (reads : List (Access Operand)) (writes : List ℕ) (j k a : ℕ) (i i' : Operand) → are_flanked reads writes lines ≡ true
     → slice_get lines j ≡ Some (line.Fetch a i) → slice_get lines k ≡ Some (line.Fetch a i') → j ≡ k
 one_fetch [] reads writes j k a i i' e p q = absurd (cc)
 one_fetch (l ∷ lines) reads writes zero zero a i i' e p q = refl
 one_fetch (l ∷ lines) reads writes zero (suc k) a i i' e p q =
-    absurd (no_fetch lines (reads_after (flank_of l) reads) (writes_after (flank_of l) writes) k a i' (flanked_rest reads writes l lines e) (now_read a i l reads (cc)) q)
+    absurd (no_fetch lines (reads_after (event_of (flank_of l)) reads) (writes_after (event_of (flank_of l)) writes) k a i' (flanked_rest reads writes l lines e) (now_read a i l reads (cc)) q)
 one_fetch (l ∷ lines) reads writes (suc j) zero a i i' e p q =
-    absurd (no_fetch lines (reads_after (flank_of l) reads) (writes_after (flank_of l) writes) j a i (flanked_rest reads writes l lines e) (now_read a i' l reads (cc)) p)
+    absurd (no_fetch lines (reads_after (event_of (flank_of l)) reads) (writes_after (event_of (flank_of l)) writes) j a i (flanked_rest reads writes l lines e) (now_read a i' l reads (cc)) p)
 one_fetch (l ∷ lines) reads writes (suc j) (suc k) a i i' e p q =
-    ap suc (one_fetch lines (reads_after (flank_of l) reads) (writes_after (flank_of l) writes) j k a i i' (flanked_rest reads writes l lines e) p q)
+    ap suc (one_fetch lines (reads_after (event_of (flank_of l)) reads) (writes_after (event_of (flank_of l)) writes) j k a i i' (flanked_rest reads writes l lines e) p q)
 
 -- two write flanks of one array are the same
-pub one_store : (lines : List Line) (reads : List Read) (writes : List ℕ) (j k a : ℕ) (i i' v v' : Operand) → are_flanked reads writes lines ≡ true
+pub one_store : (lines : List Line) (reads : List (Access Operand)) (writes : List ℕ) (j k a : ℕ) (i i' v v' : Operand) → are_flanked reads writes lines ≡ true
     → slice_get lines j ≡ Some (line.Store a i v) → slice_get lines k ≡ Some (line.Store a i' v') → j ≡ k
 one_store [] reads writes j k a i i' v v' e p q = absurd (cc)
 one_store (l ∷ lines) reads writes zero zero a i i' v v' e p q = refl
 one_store (l ∷ lines) reads writes zero (suc k) a i i' v v' e p q =
-    absurd (no_store lines (reads_after (flank_of l) reads) (writes_after (flank_of l) writes) k a i' v' (flanked_rest reads writes l lines e) (now_written a i v l writes (cc)) q)
+    absurd (no_store lines (reads_after (event_of (flank_of l)) reads) (writes_after (event_of (flank_of l)) writes) k a i' v' (flanked_rest reads writes l lines e) (now_written a i v l writes (cc)) q)
 one_store (l ∷ lines) reads writes (suc j) zero a i i' v v' e p q =
-    absurd (no_store lines (reads_after (flank_of l) reads) (writes_after (flank_of l) writes) j a i v (flanked_rest reads writes l lines e) (now_written a i' v' l writes (cc)) p)
+    absurd (no_store lines (reads_after (event_of (flank_of l)) reads) (writes_after (event_of (flank_of l)) writes) j a i v (flanked_rest reads writes l lines e) (now_written a i' v' l writes (cc)) p)
 one_store (l ∷ lines) reads writes (suc j) (suc k) a i i' v v' e p q =
-    ap suc (one_store lines (reads_after (flank_of l) reads) (writes_after (flank_of l) writes) j k a i i' v v' (flanked_rest reads writes l lines e) p q)
+    ap suc (one_store lines (reads_after (event_of (flank_of l)) reads) (writes_after (event_of (flank_of l)) writes) j k a i i' v v' (flanked_rest reads writes l lines e) p q)
 
-was_read : (l : Line) (lines : List Line) (reads : List Read) (a j : ℕ) (i : Operand) → is_read_at (reads_after (flank_of l) reads) a i ≡ true → (is_read_at reads a i ≡ true) ⊎ IsFetchedBefore (l ∷ lines) (suc j) a i
+was_read : (l : Line) (lines : List Line) (reads : List (Access Operand)) (a j : ℕ) (i : Operand) → is_read_at is_same (reads_after (event_of (flank_of l)) reads) a i ≡ true → (is_read_at is_same reads a i ≡ true) ⊎ IsFetchedBefore (l ∷ lines) (suc j) a i
 was_read (line.Fetch b k) lines reads a j i e =
-    elim (or_cases (nat_eq b a && is_same k i) (is_read_at reads a i) e) [ inl h ↦ inr (here (and_parts (nat_eq b a) (is_same k i) h)) | inr h ↦ inl h ]
+    elim (or_cases (nat_eq b a && is_same k i) (is_read_at is_same reads a i) e) [ inl h ↦ inr (here (and_parts (nat_eq b a) (is_same k i) h)) | inr h ↦ inl h ]
   where
     here : (nat_eq b a ≡ true) × (is_same k i ≡ true) → IsFetchedBefore (line.Fetch b k ∷ lines) (suc j) a i
     here p = let x = eqb-true b a p.0 in let y = same_operand k i p.1 in record { place = zero; before = omega arith; there = cc }
@@ -168,17 +169,17 @@ was_read (line.Bin op b c) lines reads a j i e = inl e
 was_read (line.Cond b c d) lines reads a j i e = inl e
 was_read (line.Hash unit modulus args) lines reads a j i e = inl e
 
-store_reads : (lines : List Line) (reads : List Read) (writes : List ℕ) (j a : ℕ) (i v : Operand) → are_flanked reads writes lines ≡ true → slice_get lines j ≡ Some (line.Store a i v)
-    → (is_read_at reads a i ≡ true) ⊎ IsFetchedBefore lines j a i
+store_reads : (lines : List Line) (reads : List (Access Operand)) (writes : List ℕ) (j a : ℕ) (i v : Operand) → are_flanked reads writes lines ≡ true → slice_get lines j ≡ Some (line.Store a i v)
+    → (is_read_at is_same reads a i ≡ true) ⊎ IsFetchedBefore lines j a i
 store_reads [] reads writes j a i v e at = absurd (cc)
 store_reads (l ∷ lines) reads writes zero a i v e at =
     let is : l ≡ line.Store a i v = cc in
-    let here : (is_read_at reads a i && not (is_written writes a)) ≡ true = subst (λ (m : Line). may_stand reads writes (flank_of m) ≡ true) is (flanked_first reads writes l lines e) in
-    inl (and_parts (is_read_at reads a i) (not (is_written writes a)) here).0
+    let here : (is_read_at is_same reads a i && not (is_written writes a)) ≡ true = subst (λ (m : Line). may_stand is_same reads writes (event_of (flank_of m)) ≡ true) is (flanked_first reads writes l lines e) in
+    inl (and_parts (is_read_at is_same reads a i) (not (is_written writes a)) here).0
 store_reads (l ∷ lines) reads writes (suc j) a i v e at =
-    by_case (store_reads lines (reads_after (flank_of l) reads) (writes_after (flank_of l) writes) j a i v (flanked_rest reads writes l lines e) at)
+    by_case (store_reads lines (reads_after (event_of (flank_of l)) reads) (writes_after (event_of (flank_of l)) writes) j a i v (flanked_rest reads writes l lines e) at)
   where
-    by_case : (is_read_at (reads_after (flank_of l) reads) a i ≡ true) ⊎ IsFetchedBefore lines j a i → (is_read_at reads a i ≡ true) ⊎ IsFetchedBefore (l ∷ lines) (suc j) a i
+    by_case : (is_read_at is_same (reads_after (event_of (flank_of l)) reads) a i ≡ true) ⊎ IsFetchedBefore lines j a i → (is_read_at is_same reads a i ≡ true) ⊎ IsFetchedBefore (l ∷ lines) (suc j) a i
     by_case (inl h) = was_read l lines reads a j i h
     by_case (inr r) = inr (record { place = suc r.place; before = (let h = r.before in omega arith); there = r.there })
 

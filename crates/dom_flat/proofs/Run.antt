@@ -13,7 +13,7 @@ use Rattle.dom_flat.specs.declared.line.Line.TheVariants as line
 use Rattle.dom_flat.specs.Flanks.{Flank, fetch, store, plain, flank_of}
 use Rattle.dom_flat.specs.Lines.{makes, operands_of, with_operands}
 use Rattle.dom_flat.specs.Kept.{is_below, are_below}
-use Rattle.dom_flat.specs.Meaning.{operand_word, line_word, flank_arrays, line_arrays, FlatEnv, line_step, run_lines, values_after, flat_entering, arrays_after, Makes}
+use Rattle.dom_flat.specs.Meaning.{operand_word, line_word, flank_arrays, line_arrays, FlatEnv, line_step, run_lines, values_after, flat_entering, arrays_after, HoldTogether}
 use Rattle.dom_flat.proofs.Order.{AreEarlier, Clears, AreFetchedFirst}
 use Rattle.dom_flat.proofs.After.{sizes-flank}
 
@@ -200,7 +200,7 @@ module _ (hash : Hash) where
 
   -- the values of a run hold together
   pub run_makes : (lines : List Line) (packet : List ℕ) (arrays : List (List ℕ)) → AreEarlier (length packet) lines → AreFetchedFirst lines
-      → Makes hash lines arrays packet (values_after hash (flat_entering packet arrays) lines)
+      → HoldTogether hash lines arrays packet (values_after hash (flat_entering packet arrays) lines)
   run_makes lines packet arrays earlier first = record {
     entering = λ v h. run_kept (flat_entering packet arrays) lines v h;
     made = λ j l e. run_made (flat_entering packet arrays) lines earlier first j l e;
@@ -220,7 +220,7 @@ module _ (hash : Hash) where
   run_sizes env (l ∷ lines) = run_sizes (line_step hash env l) lines ∙ sizes-flank (slice_index env.values) (flank_of l) env.arrays
 
   -- values that hold together are the only ones
-  pub made_alike : (lines : List Line) (packet : List ℕ) (arrays : List (List ℕ)) (f g : ℕ → ℕ) → AreEarlier (length packet) lines → Makes hash lines arrays packet f → Makes hash lines arrays packet g
+  pub made_alike : (lines : List Line) (packet : List ℕ) (arrays : List (List ℕ)) (f g : ℕ → ℕ) → AreEarlier (length packet) lines → HoldTogether hash lines arrays packet f → HoldTogether hash lines arrays packet g
       → (n v : ℕ) → v < n → v < length packet + length lines → f v ≡ g v
   made_alike lines packet arrays f g earlier p q zero v h few = absurd (omega arith)
   made_alike lines packet arrays f g earlier p q (suc n) v h few =

@@ -1,6 +1,7 @@
 -- What holds of a statement list.
-use Rattle.std.specs.Prelude.{ℕ, Bool, true, false, not, ◌&&◌, nat_eq, nat_le, nat_lt, List, [], ◌∷◌, ◌++◌, length, map, replicate, slice_index_or}
-use Rattle.std.specs.List.{list_all, list_any}
+use Rattle.std.specs.Prelude.{ℕ, Bool, true, false, ◌&&◌, nat_eq, nat_le, nat_lt, List, [], ◌∷◌, ◌++◌, length, map, replicate, slice_index_or}
+use Rattle.std.specs.List.{list_all}
+use Rattle.dom_words.specs.Order.{Access, Event, reading, writing, working, are_ordered}
 use Rattle.dom_words.specs.State.{fits_word}
 use Rattle.dom_flat.specs.declared.line.Operand.{Operand}
 use Rattle.dom_flat.specs.declared.line.Operand.TheVariants.{Const, Value}
@@ -77,40 +78,13 @@ is_same (Const w) (Value v) = false
 is_same (Value v) (Const w) = false
 is_same (Value v) (Value u) = nat_eq v u
 
--- an array that is read, with its index
-pub record Read : Type 0 where
-  pub array : ℕ
-  pub index : Operand
+-- what a statement is to the arrays
+abbrev pub event_of : Flank → Event Operand
+event_of (fetch a i) = reading a i
+event_of (store a i v) = writing a i
+event_of plain = working []
 
-abbrev pub is_read : List Read → ℕ → Bool
-is_read reads a = list_any (λ r. nat_eq r.array a) reads
-
-abbrev pub is_read_at : List Read → ℕ → Operand → Bool
-is_read_at reads a i = list_any (λ r. nat_eq r.array a && is_same r.index i) reads
-
-abbrev pub is_written : List ℕ → ℕ → Bool
-is_written writes a = list_any (nat_eq a) writes
-
--- a flank may stand after these reads and writes: no array is read twice or written twice, and a write flank stands after its
--- array's read flank and has its index
-abbrev pub may_stand : List Read → List ℕ → Flank → Bool
-may_stand reads writes (fetch a i) = not (is_read reads a)
-may_stand reads writes (store a i v) = is_read_at reads a i && not (is_written writes a)
-may_stand reads writes plain = true
-
--- the reads and the writes after a flank
-abbrev pub reads_after : Flank → List Read → List Read
-reads_after (fetch a i) reads = record { array = a; index = i } ∷ reads
-reads_after (store a i v) reads = reads
-reads_after plain reads = reads
-
-abbrev pub writes_after : Flank → List ℕ → List ℕ
-writes_after (fetch a i) writes = writes
-writes_after (store a i v) writes = a ∷ writes
-writes_after plain writes = writes
-
--- after these reads and writes, each flank of the statements may stand where it does
-abbrev pub are_flanked : List Read → List ℕ → List Line → Bool
-are_flanked reads writes [] = true
-are_flanked reads writes (l ∷ lines) =
-    may_stand reads writes (flank_of l) && are_flanked (reads_after (flank_of l) reads) (writes_after (flank_of l) writes) lines
+-- after these reads and writes: no array is read twice or written twice, and a write flank stands after its array's read flank
+-- and has its index
+abbrev pub are_flanked : List (Access Operand) → List ℕ → List Line → Bool
+are_flanked reads writes lines = are_ordered is_same reads writes (map (λ l. event_of (flank_of l)) lines)

@@ -9,7 +9,7 @@ use Rattle.dom_flat.specs.declared.line.Line.{Line}
 use Rattle.dom_flat.specs.declared.line.Line.TheVariants as line
 use Rattle.dom_flat.specs.Form.{FlatForm}
 use Rattle.dom_flat.specs.Lines.{IsQuiet, makes, operands_of, uses}
-use Rattle.dom_flat.specs.Meaning.{Makes, arrays_after, flat_entering, flat_outcome, operand_word, values_after}
+use Rattle.dom_flat.specs.Meaning.{HoldTogether, arrays_after, flat_entering, flat_outcome, operand_word, values_after}
 
 -- statement a is there and makes a value
 pub record IsMaker (lines : List Line) (a : ℕ) : Type 0 where
@@ -61,10 +61,10 @@ outcome_by f arrays val = record { packet = map (λ o. operand_word o val) f.out
 -- a run and what holds between its values are the same: the values of a run hold together, and values that hold together
 -- are those of the run and come to its outcome; of each array the one write flank decides, or it stays
 pub record RunIsConsistent (f : FlatForm) : Type 0 where
-  pub made : (hash : Hash) (packet : List ℕ) (state : List (List ℕ)) → length packet ≡ f.fields → Makes hash f.lines state packet (values_after hash (flat_entering packet state) f.lines)
-  pub same : (hash : Hash) (packet : List ℕ) (state : List (List ℕ)) (val : ℕ → ℕ) → length packet ≡ f.fields → Makes hash f.lines state packet val
+  pub made : (hash : Hash) (packet : List ℕ) (state : List (List ℕ)) → length packet ≡ f.fields → HoldTogether hash f.lines state packet (values_after hash (flat_entering packet state) f.lines)
+  pub same : (hash : Hash) (packet : List ℕ) (state : List (List ℕ)) (val : ℕ → ℕ) → length packet ≡ f.fields → HoldTogether hash f.lines state packet val
       → (v : ℕ) → v < f.fields + length f.lines → val v ≡ values_after hash (flat_entering packet state) f.lines v
-  pub outcome : (hash : Hash) (packet : List ℕ) (state : List (List ℕ)) (val : ℕ → ℕ) → length packet ≡ f.fields → Makes hash f.lines state packet val
+  pub outcome : (hash : Hash) (packet : List ℕ) (state : List (List ℕ)) (val : ℕ → ℕ) → length packet ≡ f.fields → HoldTogether hash f.lines state packet val
       → flat_outcome hash f.lines f.outputs packet state ≡ outcome_by f state val
   pub stays : (state : List (List ℕ)) (val : ℕ → ℕ) (a : ℕ) → IsQuiet a f.lines → array_of (arrays_after f.lines state val) a ≡ array_of state a
   pub stored_at : (state : List (List ℕ)) (val : ℕ → ℕ) (j a : ℕ) (i v : Operand) → slice_get f.lines j ≡ Some (line.Store a i v)

@@ -70,6 +70,6 @@ arrays_after [] arrays val = arrays
 arrays_after (l ∷ lines) arrays val = arrays_after lines (line_arrays l arrays val) val
 
 -- val has the packet's words, and for each statement the word that it makes of those arrays and of val
-pub record Makes (hash : Hash) (lines : List Line) (arrays : List (List ℕ)) (packet : List ℕ) (val : ℕ → ℕ) : Type 0 where
+pub record HoldTogether (hash : Hash) (lines : List Line) (arrays : List (List ℕ)) (packet : List ℕ) (val : ℕ → ℕ) : Type 0 where
   pub entering : (v : ℕ) → v < length packet → val v ≡ slice_index packet v
   pub made : (j : ℕ) (l : Line) → slice_get lines j ≡ Some l → val (length packet + j) ≡ line_word hash l arrays val

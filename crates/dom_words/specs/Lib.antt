@@ -2,6 +2,7 @@ pub mod Fnv
 pub mod Names
 pub mod Number
 pub mod Operators
+pub mod Order
 pub mod Packet
 pub mod Spelling
 pub mod State

@@ -1,4 +1,4 @@
-use Rattle.std.proofs.Common.{◌^◌, List}
+use Rattle.std.proofs.Common.{◌^◌}
 use Rattle.std.proofs.lemmas.Bool.{leb-true, ltb-true}
 use Rattle.dom_words.specs.State.{fits_word}
 use Rattle.dom_words.specs.declared.array.Array.{Array}
