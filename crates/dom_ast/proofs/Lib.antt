@@ -1,2 +1,3 @@
+pub mod NamedOrder
 pub mod PartForms
 pub mod Serials

@@ -1,14 +1,15 @@
 -- Lists of steps between flanks. A read flank is the one place of a list where the word of an array is read, and a write
 -- flank the one where it is written back.
-use Rattle.std.specs.Prelude.{ℕ, suc, Bool, true, not, ◌&&◌, nat_eq, nat_lt, List, [], ◌∷◌, fold, map, sum, slice_index, slice_set}
-use Rattle.std.specs.List.{list_all, list_any}
+use Rattle.std.specs.Prelude.{ℕ, suc, Bool, ◌&&◌, nat_lt, List, fold, map, sum, slice_index, slice_set}
+use Rattle.std.specs.List.{list_all}
+use Rattle.dom_words.specs.Order.{Event, reading, writing, working, are_ordered}
 use Rattle.dom_words.specs.State.{Hash, Outcome, fetched, stored}
 use Rattle.dom_ast.specs.declared.part.Goal.{Goal}
 use Rattle.dom_ast.specs.declared.part.Goal.TheVariants as goal
 use Rattle.dom_ast.specs.declared.part.Place.{Place}
 use Rattle.dom_ast.specs.declared.flanks.FlankItem.{FlankItem}
 use Rattle.dom_ast.specs.declared.flanks.FlankItem.TheVariants as item
-use Rattle.dom_ast.specs.Kept.{Mention, Ranges, is_place, mention, place_within, visit_mentions, visit_within}
+use Rattle.dom_ast.specs.Kept.{Mention, Ranges, is_place, place_within, visit_mentions, visit_within}
 use Rattle.dom_ast.specs.Meaning.{Names, place_word, put, value}
 use Rattle.dom_ast.specs.PartSize.{part_nodes}
 use Rattle.dom_ast.specs.Straight.{StepForm, step_form, step_visit}
@@ -35,27 +36,16 @@ flank_within r (write a i) = nat_lt a r.arrays && place_within r i
 abbrev pub flanks_within : Ranges → List FlankForm → Bool
 flanks_within r items = list_all (flank_within r) items
 
--- the array has a read flank among these
-abbrev pub is_read : List Mention → ℕ → Bool
-is_read reads a = list_any (λ m. nat_eq m.array a) reads
-
--- the array has a read flank with this index among these
-abbrev pub is_read_at : List Mention → ℕ → Place → Bool
-is_read_at reads a i = list_any (λ m. nat_eq m.array a && is_place m.index i) reads
-
--- the array has a write flank among these
-abbrev pub is_written : List ℕ → ℕ → Bool
-is_written writes a = list_any (nat_eq a) writes
+-- what an item is to the arrays; a step works on the words of the arrays that it mentions
+abbrev pub flank_event : FlankForm → Event Place
+flank_event (read a i) = reading a i
+flank_event (set s) = working (visit_mentions (step_visit s))
+flank_event (write a i) = writing a i
 
 -- after these read and write flanks: no array is read twice or written twice, each mention of an array stands after its
 -- read flank, and a write flank stands after it too and has its index
 abbrev pub are_flanked : List Mention → List ℕ → List FlankForm → Bool
-are_flanked reads writes [] = true
-are_flanked reads writes (read a i ∷ items) = not (is_read reads a) && are_flanked (mention a i ∷ reads) writes items
-are_flanked reads writes (set s ∷ items) =
-    list_all (λ m. is_read reads m.array) (visit_mentions (step_visit s)) && are_flanked reads writes items
-are_flanked reads writes (write a i ∷ items) =
-    is_read_at reads a i && (not (is_written writes a) && are_flanked reads (a ∷ writes) items)
+are_flanked reads writes items = are_ordered is_place reads writes (map flank_event items)
 
 -- the packet, the state and the fresh names; and of each array the word that steps work on, and the index at which it was read
 pub record FlankEnv : Type 0 where
@@ -71,33 +61,17 @@ flank_names env = record { field = slice_index env.packet; state = λ a i. env.w
 
 -- a target gets a word
 abbrev pub flank_assigned : Goal → ℕ → FlankEnv → FlankEnv
-flank_assigned (goal.Field f) word env =
-    record { packet = slice_set env.packet f word; arrays = env.arrays; fresh = env.fresh; words = env.words; found = env.found }
-flank_assigned (goal.State a i) word env =
-    record { packet = env.packet; arrays = env.arrays; fresh = env.fresh; words = put a word env.words; found = env.found }
-flank_assigned (goal.Fresh k) word env =
-    record { packet = env.packet; arrays = env.arrays; fresh = put k word env.fresh; words = env.words; found = env.found }
+flank_assigned (goal.Field f) word env = record env { packet = slice_set env.packet f word }
+flank_assigned (goal.State a i) word env = record env { words = put a word env.words }
+flank_assigned (goal.Fresh k) word env = record env { fresh = put k word env.fresh }
 
 -- a read flank copies the element into the array's word, steps use that word, and a write flank copies it back to the index
 -- that the read flank found
 abbrev pub flanked : Hash → FlankEnv → FlankForm → FlankEnv
 flanked hash env (read a i) =
-    record {
-      packet = env.packet;
-      arrays = env.arrays;
-      fresh = env.fresh;
-      words = put a (fetched env.arrays a (place_word i env.packet)) env.words;
-      found = put a (place_word i env.packet) env.found;
-    }
+    record env { words = put a (fetched env.arrays a (place_word i env.packet)) env.words; found = put a (place_word i env.packet) env.found }
 flanked hash env (set s) = flank_assigned s.target (value hash (flank_names env) s.value) env
-flanked hash env (write a i) =
-    record {
-      packet = env.packet;
-      arrays = stored env.arrays a (env.found a) (env.words a);
-      fresh = env.fresh;
-      words = env.words;
-      found = env.found;
-    }
+flanked hash env (write a i) = record env { arrays = stored env.arrays a (env.found a) (env.words a) }
 
 -- the items one after another
 abbrev pub all_flanked : Hash → FlankEnv → List FlankForm → FlankEnv

@@ -1,6 +1,7 @@
 -- What holds of a resolved program and of the lists that the passes make of it.
 use Rattle.std.specs.Prelude.{ℕ, suc, Bool, true, false, not, ◌&&◌, ◌||◌, nat_eq, nat_lt, List, [], ◌∷◌, ◌++◌, flat_map, Option, Some, None}
 use Rattle.std.specs.List.{list_all}
+use Rattle.dom_words.specs.Order.{Access}
 use Rattle.dom_ast.specs.declared.part.Place.{Place}
 use Rattle.dom_ast.specs.declared.part.Place.TheVariants as place
 use Rattle.dom_ast.specs.declared.part.Goal.{Goal}
@@ -38,9 +39,8 @@ abbrev pub bodies_visits : List BodyForm → List Visit
 bodies_visits bodies = flat_map (λ body. guard_visits body.guard ++ acts_visits body.acts) bodies
 
 -- a mention of an array at an index
-pub record Mention : Type 0 where
-  pub array : ℕ
-  pub index : Place
+abbrev pub Mention : Type 0
+Mention = Access Place
 
 abbrev pub mention : ℕ → Place → Mention
 mention a i = record { array = a; index = i }

@@ -68,10 +68,9 @@ put k word names j = if j == k then word else names j
 
 -- a target gets a word
 abbrev pub assigned : Goal → ℕ → Env → Env
-assigned (goal.Field f) word env = record { packet = slice_set env.packet f word; arrays = env.arrays; fresh = env.fresh }
-assigned (goal.State a i) word env =
-    record { packet = env.packet; arrays = stored env.arrays a (place_word i env.packet) word; fresh = env.fresh }
-assigned (goal.Fresh k) word env = record { packet = env.packet; arrays = env.arrays; fresh = put k word env.fresh }
+assigned (goal.Field f) word env = record env { packet = slice_set env.packet f word }
+assigned (goal.State a i) word env = record env { arrays = stored env.arrays a (place_word i env.packet) word }
+assigned (goal.Fresh k) word env = record env { fresh = put k word env.fresh }
 
 -- what statements do; an `if` does the one branch that its condition chooses
 abbrev mutual

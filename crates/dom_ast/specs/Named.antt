@@ -1,6 +1,7 @@
 -- Lists with one name for each value.
-use Rattle.std.specs.Prelude.{ℕ, suc, ◌+◌, Bool, true, false, not, ◌&&◌, nat_eq, nat_lt, List, [], ◌∷◌, ◌++◌, fold, map, sum, slice_index, slice_index_or}
-use Rattle.std.specs.List.{list_all, list_any}
+use Rattle.std.specs.Prelude.{ℕ, suc, ◌+◌, Bool, true, false, ◌&&◌, nat_eq, nat_lt, List, [], ◌∷◌, ◌++◌, fold, map, sum, slice_index, slice_index_or}
+use Rattle.std.specs.List.{list_all}
+use Rattle.dom_words.specs.Order.{Event, reading, writing, working, are_ordered}
 use Rattle.dom_words.specs.State.{Hash, Outcome, fetched, stored}
 use Rattle.dom_ast.specs.declared.named.NamedItem.{NamedItem}
 use Rattle.dom_ast.specs.declared.named.NamedItem.TheVariants as item
@@ -26,60 +27,14 @@ abbrev pub is_operand : PartForm → Bool
 is_operand (number w) = true
 is_operand (field f) = true
 is_operand (made k) = true
-is_operand (state a i) = false
-is_operand (fresh k) = false
-is_operand (call unit ps) = false
-is_operand (un o p) = false
-is_operand (chain p os) = false
-is_operand (choice c p q) = false
-
--- the expression is this number
-abbrev pub is_number : ℕ → PartForm → Bool
-is_number w (number v) = nat_eq w v
-is_number w (field f) = false
-is_number w (made k) = false
-is_number w (state a i) = false
-is_number w (fresh k) = false
-is_number w (call unit ps) = false
-is_number w (un o p) = false
-is_number w (chain p os) = false
-is_number w (choice c p q) = false
-
--- the expression is this field
-abbrev pub is_field : ℕ → PartForm → Bool
-is_field f (field g) = nat_eq f g
-is_field f (number v) = false
-is_field f (made k) = false
-is_field f (state a i) = false
-is_field f (fresh k) = false
-is_field f (call unit ps) = false
-is_field f (un o p) = false
-is_field f (chain p os) = false
-is_field f (choice c p q) = false
-
--- the expression is this made value
-abbrev pub is_value : ℕ → PartForm → Bool
-is_value k (made j) = nat_eq k j
-is_value k (number v) = false
-is_value k (field f) = false
-is_value k (state a i) = false
-is_value k (fresh j) = false
-is_value k (call unit ps) = false
-is_value k (un o p) = false
-is_value k (chain p os) = false
-is_value k (choice c p q) = false
+is_operand _ = false
 
 -- two operands are the same
 abbrev pub is_same_operand : PartForm → PartForm → Bool
-is_same_operand (number w) p = is_number w p
-is_same_operand (field f) p = is_field f p
-is_same_operand (made k) p = is_value k p
-is_same_operand (state a i) p = false
-is_same_operand (fresh k) p = false
-is_same_operand (call unit ps) p = false
-is_same_operand (un o q) p = false
-is_same_operand (chain q os) p = false
-is_same_operand (choice c q r) p = false
+is_same_operand (number w) (number v) = nat_eq w v
+is_same_operand (field f) (field g) = nat_eq f g
+is_same_operand (made k) (made j) = nat_eq k j
+is_same_operand _ _ = false
 
 -- which items make a value
 abbrev pub makes : NamedForm → Bool
@@ -100,41 +55,28 @@ named_ranges fields made_so_far =
 abbrev pub operand_within : ℕ → List Bool → PartForm → Bool
 operand_within fields made_so_far p = is_operand p && part_within (named_ranges fields made_so_far) p
 
--- an array that is read, with its index
-pub record ReadForm : Type 0 where
-  pub array : ℕ
-  pub index : PartForm
+-- the numbers of an item are in range, after items that make these values
+abbrev pub item_within : ℕ → ℕ → List Bool → NamedForm → Bool
+item_within fields arrays before (read a i) = nat_lt a arrays && operand_within fields before i
+item_within fields arrays before (make p) = part_within (named_ranges fields before) p
+item_within fields arrays before (write a i p) =
+    nat_lt a arrays && (operand_within fields before i && operand_within fields before p)
 
--- the array is read among these
-abbrev pub is_read : List ReadForm → ℕ → Bool
-is_read reads a = list_any (λ r. nat_eq r.array a) reads
+-- after items that make these values, numbers are in range, and values are used after they are made
+abbrev pub are_named : ℕ → ℕ → List Bool → List NamedForm → Bool
+are_named fields arrays before [] = true
+are_named fields arrays before (item ∷ items) =
+    item_within fields arrays before item && are_named fields arrays (before ++ makes item ∷ []) items
 
--- the array is read at this index among these
-abbrev pub is_read_at : List ReadForm → ℕ → PartForm → Bool
-is_read_at reads a i = list_any (λ r. nat_eq r.array a && is_same_operand r.index i) reads
+-- what an item is to the arrays
+abbrev pub item_event : NamedForm → Event PartForm
+item_event (read a i) = reading a i
+item_event (make p) = working []
+item_event (write a i p) = writing a i
 
--- the array is written among these
-abbrev pub is_written : List ℕ → ℕ → Bool
-is_written writes a = list_any (nat_eq a) writes
-
--- after items that make these values, with these reads and writes: numbers are in range, values are used after they are
--- made, no array is read twice or written twice, and a write stands after its array's read and has its index
-abbrev pub are_named : ℕ → ℕ → List Bool → List ReadForm → List ℕ → List NamedForm → Bool
-are_named fields arrays before reads writes [] = true
-are_named fields arrays before reads writes (read a i ∷ items) =
-    nat_lt a arrays
-    && (operand_within fields before i
-    && (not (is_read reads a)
-    && are_named fields arrays (before ++ true ∷ []) (record { array = a; index = i } ∷ reads) writes items))
-are_named fields arrays before reads writes (make p ∷ items) =
-    part_within (named_ranges fields before) p && are_named fields arrays (before ++ true ∷ []) reads writes items
-are_named fields arrays before reads writes (write a i p ∷ items) =
-    nat_lt a arrays
-    && (operand_within fields before i
-    && (operand_within fields before p
-    && (is_read_at reads a i
-    && (not (is_written writes a)
-    && are_named fields arrays (before ++ false ∷ []) reads (a ∷ writes) items))))
+-- no array is read twice or written twice, and a write stands after its array's read and has its index
+abbrev pub are_in_order : List NamedForm → Bool
+are_in_order items = are_ordered is_same_operand [] [] (map item_event items)
 
 -- each output is an operand with a number in range
 abbrev pub are_outputs : ℕ → List Bool → List PartForm → Bool

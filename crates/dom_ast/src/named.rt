@@ -1,6 +1,6 @@
 ghost use Rattle.std.specs.Prelude.{◌≡◌, ◌≤◌, [], length, map, true};
 ghost use Rattle.dom_words.specs.State.{are_lengths, start_with_words, state_words};
-ghost use Rattle.dom_ast.specs.Named.{are_named, are_outputs, makes_of, named_form};
+ghost use Rattle.dom_ast.specs.Named.{are_in_order, are_named, are_outputs, makes_of, named_form};
 ghost use Rattle.dom_ast.specs.Resolved.{form};
 
 use crate::part::{Part, PartList};
@@ -42,7 +42,8 @@ pub struct Named {
     ghost lengths: { are_lengths arrays ≡ true },
     ghost first_words: { start_with_words arrays ≡ true },
     ghost few_words: { state_words arrays ≤ 1048576 },
-    ghost ranges: { are_named (length fields) (length arrays) [] [] [] (map named_form items) ≡ true },
+    ghost ranges: { are_named (length fields) (length arrays) [] (map named_form items) ≡ true },
+    ghost order: { are_in_order (map named_form items) ≡ true },
     ghost output_ranges: { are_outputs (length fields) (makes_of (map named_form items)) (map form outputs) ≡ true },
     ghost one_output_each: { length outputs ≡ length fields },
 }
