@@ -10,3 +10,4 @@ pub mod Resolved
 pub mod Serial
 pub mod Size
 pub mod Straight
+pub mod inner

@@ -1,7 +1,7 @@
 use Rattle.std.proofs.Common.{◌≡◌, length, map, drop, true}
 use Rattle.dom_ast.specs.Meaning.{all_acted, entering}
 use Rattle.dom_ast.specs.Resolved.{act_forms}
-use Rattle.dom_ast.specs.Serial.{acts_within, ranges_over}
+use Rattle.dom_ast.specs.inner.Runs.{acts_within, ranges_over}
 use Rattle.dom_ast.proofs.serial.+run.Given as goal
 
 abbrev pub invariant-run_all-loop-k : goal.invariant-run_all-loop-k

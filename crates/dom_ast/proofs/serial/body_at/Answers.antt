@@ -1,4 +1,4 @@
-use Rattle.dom_ast.specs.Serial.{ranges_over}
+use Rattle.dom_ast.specs.inner.Runs.{ranges_over}
 use Rattle.dom_ast.proofs.Serials.{body_within_at}
 use Rattle.dom_ast.proofs.serial.body_at.Goals as goal
 

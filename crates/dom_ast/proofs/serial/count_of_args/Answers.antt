@@ -1,4 +1,4 @@
-use Rattle.dom_ast.specs.Serial.{ranges_over}
+use Rattle.dom_ast.specs.inner.Runs.{ranges_over}
 use Rattle.dom_ast.proofs.Serials.{call_within}
 use Rattle.dom_ast.proofs.serial.count_of_args.Goals as goal
 

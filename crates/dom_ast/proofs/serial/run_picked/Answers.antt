@@ -1,7 +1,7 @@
 use Rattle.std.proofs.Common.{◌≡◌, ◌<◌, ◌∙◌, ℕ, Bool, ap, sym, length, map, false, if◌then◌else◌, slice_index_or, arith}
 use Rattle.dom_ast.specs.Meaning.{Env, all_acted, entering}
 use Rattle.dom_ast.specs.Resolved.{act_forms, bodies_form}
-use Rattle.dom_ast.specs.Serial.{bodies_within}
+use Rattle.dom_ast.specs.inner.Runs.{bodies_within}
 use Rattle.dom_ast.proofs.Serials.{entering_alike, picked_next, ranges_alike}
 use Rattle.dom_ast.proofs.serial.run_picked.Goals.{then-chosen, else-chosen}
 use Rattle.dom_ast.proofs.serial.run_picked.Goals as goal

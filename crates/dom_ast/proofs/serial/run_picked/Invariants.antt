@@ -1,7 +1,7 @@
 use Rattle.std.proofs.Common.{◌≡◌, length, map, drop, true}
 use Rattle.dom_ast.specs.Meaning.{entering}
 use Rattle.dom_ast.specs.Resolved.{bodies_form}
-use Rattle.dom_ast.specs.Serial.{all_run, bodies_within, picked, ranges_over}
+use Rattle.dom_ast.specs.inner.Runs.{all_run, bodies_within, picked, ranges_over}
 use Rattle.dom_ast.proofs.serial.run_picked.Given as goal
 
 abbrev pub invariant-loop-k : goal.invariant-loop-k

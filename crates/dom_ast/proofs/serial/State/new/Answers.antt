@@ -1,7 +1,7 @@
 use Rattle.std.proofs.Common.{◌∙◌, ap}
 use Rattle.std.proofs.lemmas.List.{take_all}
 use Rattle.dom_words.specs.State.{started}
-use Rattle.dom_ast.specs.Serial.{are_filled}
+use Rattle.dom_ast.specs.inner.Runs.{are_filled}
 use Rattle.dom_ast.proofs.Serials.{started_filled}
 use Rattle.dom_ast.proofs.serial.State.new.Goals as goal
 
