@@ -1,20 +1,20 @@
 -- What holds of the statements of a list with one name for each value.
-use Rattle.std.proofs.Common.{◌≡◌, ℕ, suc, ◌+◌, ◌<◌, ◌≤◌, ◌&&◌, ◌||◌, not, nat_eq, nat_lt, Bool, true, false, List, [], ◌∷◌, ◌++◌, length, refl, sym, ap, ◌∙◌, subst, arith, get_or, append_assoc, ⊎_elim}
+use Rattle.std.proofs.Common.{◌≡◌, ℕ, suc, ◌+◌, ◌<◌, ◌≤◌, ◌&&◌, ◌||◌, not, nat_eq, nat_lt, Bool, true, false, List, [], ◌∷◌, ◌++◌, length, map, refl, sym, ap, ◌∙◌, subst, arith, get_or, append_assoc, ⊎_elim}
 use Rattle.std.specs.Prelude.{⊤}
 use Rattle.std.specs.List.{AllByRecursion as Every}
 use Rattle.std.proofs.Math.ListN.{get_or-append}
 use Rattle.std.proofs.Math.Seq.{get_or-append_seam}
 use Rattle.std.proofs.lemmas.Bool.{eqb-true, eq-eqb, and_parts, and_from, or_cases, or_left, or_right, cases_lt}
 use Rattle.std.proofs.lemmas.List.{append-nil, get_or_past, length_push}
+use Rattle.dom_words.specs.Order.{Access, are_ordered, is_read, is_read_at, is_written, may_stand, reads_after, writes_after}
 use Rattle.dom_ast.specs.Kept.{part_within, parts_within}
-use Rattle.dom_ast.specs.Named.{NamedForm, read, make, write, ReadForm, is_operand, is_same_operand, is_read, is_read_at, is_written, are_named, are_outputs, makes_of, named_ranges, operand_within}
+use Rattle.dom_ast.specs.Named.{NamedForm, read, make, write, is_operand, is_same_operand, are_in_order, are_named, are_outputs, item_event, makes_of, named_ranges, operand_within}
 use Rattle.dom_ast.specs.Resolved.{PartForm, number, field, state, fresh, made, call, un, chain, choice, parts_of}
 use Rattle.dom_flat.specs.declared.line.Operand.{Operand}
 use Rattle.dom_flat.specs.declared.line.Operand.TheVariants.{Const, Value}
 use Rattle.dom_flat.specs.declared.line.Line.{Line}
 use Rattle.dom_flat.specs.declared.line.Line.TheVariants as line
-use Rattle.dom_flat.specs.Kept as flat
-use Rattle.dom_flat.specs.Kept.{Read, is_same, are_after, are_known, are_flanked, entered, have_small_moduli, is_known, may_stand, reads_after, writes_after, lines_within, values_of}
+use Rattle.dom_flat.specs.Kept.{is_same, are_after, are_known, are_flanked, entered, event_of, have_small_moduli, is_known, lines_within, values_of}
 use Rattle.dom_flat.specs.Flanks.{flank_of}
 use Rattle.dom_flat.specs.Lines.{is_flank, makes as flat_makes}
 use Rattle.dom_flat.proofs.Facts.{flanked_first, flanked_rest}
@@ -26,35 +26,35 @@ abbrev pub none_made : List Bool
 none_made = []
 
 -- the arrays that statements read and write, the last first
-abbrev pub reads_of : List Read → List Line → List Read
+abbrev pub reads_of : List (Access Operand) → List Line → List (Access Operand)
 reads_of reads [] = reads
-reads_of reads (l ∷ lines) = reads_of (reads_after (flank_of l) reads) lines
+reads_of reads (l ∷ lines) = reads_of (reads_after (event_of (flank_of l)) reads) lines
 
 abbrev pub writes_of : List ℕ → List Line → List ℕ
 writes_of writes [] = writes
-writes_of writes (l ∷ lines) = writes_of (writes_after (flank_of l) writes) lines
+writes_of writes (l ∷ lines) = writes_of (writes_after (event_of (flank_of l)) writes) lines
 
 -- flanks stand right, with these reads and writes in the end
-pub record Flanks (lines : List Line) (reads : List Read) (writes : List ℕ) : Type 0 where
+pub record Flanks (lines : List Line) (reads : List (Access Operand)) (writes : List ℕ) : Type 0 where
   pub stand : are_flanked [] [] lines ≡ true
   pub read_so : reads_of [] lines ≡ reads
   pub written_so : writes_of [] lines ≡ writes
 
-flanked_append : (reads : List Read) (writes : List ℕ) (a b : List Line) → are_flanked reads writes a ≡ true → are_flanked (reads_of reads a) (writes_of writes a) b ≡ true → are_flanked reads writes (a ++ b) ≡ true
+flanked_append : (reads : List (Access Operand)) (writes : List ℕ) (a b : List Line) → are_flanked reads writes a ≡ true → are_flanked (reads_of reads a) (writes_of writes a) b ≡ true → are_flanked reads writes (a ++ b) ≡ true
 flanked_append reads writes [] b h g = g
 flanked_append reads writes (l ∷ as_) b h g =
-    and_from (may_stand reads writes (flank_of l)) _ (flanked_first reads writes l as_ h)
-    (flanked_append (reads_after (flank_of l) reads) (writes_after (flank_of l) writes) as_ b (flanked_rest reads writes l as_ h) g)
+    and_from (may_stand is_same reads writes (event_of (flank_of l))) _ (flanked_first reads writes l as_ h)
+    (flanked_append (reads_after (event_of (flank_of l)) reads) (writes_after (event_of (flank_of l)) writes) as_ b (flanked_rest reads writes l as_ h) g)
 
-reads_append : (reads : List Read) (a b : List Line) → reads_of reads (a ++ b) ≡ reads_of (reads_of reads a) b
+reads_append : (reads : List (Access Operand)) (a b : List Line) → reads_of reads (a ++ b) ≡ reads_of (reads_of reads a) b
 reads_append reads [] b = refl
-reads_append reads (l ∷ as_) b = reads_append (reads_after (flank_of l) reads) as_ b
+reads_append reads (l ∷ as_) b = reads_append (reads_after (event_of (flank_of l)) reads) as_ b
 
 writes_append : (writes : List ℕ) (a b : List Line) → writes_of writes (a ++ b) ≡ writes_of (writes_of writes a) b
 writes_append writes [] b = refl
-writes_append writes (l ∷ as_) b = writes_append (writes_after (flank_of l) writes) as_ b
+writes_append writes (l ∷ as_) b = writes_append (writes_after (event_of (flank_of l)) writes) as_ b
 
-plain_reads : (reads : List Read) (lines : List Line) → Every (λ l. is_flank l ≡ false) lines → reads_of reads lines ≡ reads
+plain_reads : (reads : List (Access Operand)) (lines : List Line) → Every (λ l. is_flank l ≡ false) lines → reads_of reads lines ≡ reads
 plain_reads reads [] p = refl
 plain_reads reads (line.Fetch a i ∷ lines) p = absurd (let e : true ≡ false = p.0 in cc)
 plain_reads reads (line.Store a i v ∷ lines) p = absurd (let e : true ≡ false = p.0 in cc)
@@ -72,7 +72,7 @@ plain_writes writes (line.Bin o x y ∷ lines) p = plain_writes writes lines p.1
 plain_writes writes (line.Cond c x y ∷ lines) p = plain_writes writes lines p.1
 plain_writes writes (line.Hash unit modulus args ∷ lines) p = plain_writes writes lines p.1
 
-plain_stands : (reads : List Read) (writes : List ℕ) (lines : List Line) → Every (λ l. is_flank l ≡ false) lines → are_flanked reads writes lines ≡ true
+plain_stands : (reads : List (Access Operand)) (writes : List ℕ) (lines : List Line) → Every (λ l. is_flank l ≡ false) lines → are_flanked reads writes lines ≡ true
 plain_stands reads writes [] p = refl
 plain_stands reads writes (line.Fetch a i ∷ lines) p = absurd (let e : true ≡ false = p.0 in cc)
 plain_stands reads writes (line.Store a i v ∷ lines) p = absurd (let e : true ≡ false = p.0 in cc)
@@ -81,7 +81,7 @@ plain_stands reads writes (line.Bin o x y ∷ lines) p = plain_stands reads writ
 plain_stands reads writes (line.Cond c x y ∷ lines) p = plain_stands reads writes lines p.1
 plain_stands reads writes (line.Hash unit modulus args ∷ lines) p = plain_stands reads writes lines p.1
 
-flanks_grown : (a b : List Line) (reads : List Read) (writes : List ℕ) → Grown a b → Flanks a reads writes → Flanks b reads writes
+flanks_grown : (a b : List Line) (reads : List (Access Operand)) (writes : List ℕ) → Grown a b → Flanks a reads writes → Flanks b reads writes
 flanks_grown a b reads writes g f =
     subst (λ (ls : List Line). Flanks ls reads writes) (sym g.is) (record {
       stand = flanked_append [] [] a g.more f.stand (plain_stands (reads_of [] a) (writes_of [] a) g.more g.plain);
@@ -89,18 +89,18 @@ flanks_grown a b reads writes g f =
       written_so = writes_append [] a g.more ∙ plain_writes (writes_of [] a) g.more g.plain ∙ f.written_so;
     })
 
-flanks_fetch : (lines : List Line) (reads : List Read) (writes : List ℕ) (a : ℕ) (i : Operand) → not (flat.is_read reads a) ≡ true → Flanks lines reads writes → Flanks (lines ++ line.Fetch a i ∷ []) (record { array = a; index = i } ∷ reads) writes
+flanks_fetch : (lines : List Line) (reads : List (Access Operand)) (writes : List ℕ) (a : ℕ) (i : Operand) → not (is_read reads a) ≡ true → Flanks lines reads writes → Flanks (lines ++ line.Fetch a i ∷ []) (record { array = a; index = i } ∷ reads) writes
 flanks_fetch lines reads writes a i e f =
     record {
-      stand = flanked_append [] [] lines (line.Fetch a i ∷ []) f.stand (and_from (not (flat.is_read (reads_of [] lines) a)) true (subst (λ (rs : List Read). not (flat.is_read rs a) ≡ true) (sym f.read_so) e) refl);
-      read_so = reads_append [] lines (line.Fetch a i ∷ []) ∙ ap (λ (rs : List Read). record { array = a; index = i } ∷ rs) f.read_so;
+      stand = flanked_append [] [] lines (line.Fetch a i ∷ []) f.stand (and_from (not (is_read (reads_of [] lines) a)) true (subst (λ (rs : List (Access Operand)). not (is_read rs a) ≡ true) (sym f.read_so) e) refl);
+      read_so = reads_append [] lines (line.Fetch a i ∷ []) ∙ ap (λ (rs : List (Access Operand)). record { array = a; index = i } ∷ rs) f.read_so;
       written_so = writes_append [] lines (line.Fetch a i ∷ []) ∙ f.written_so;
     }
 
-flanks_store : (lines : List Line) (reads : List Read) (writes : List ℕ) (a : ℕ) (i v : Operand) → flat.is_read_at reads a i ≡ true → not (flat.is_written writes a) ≡ true → Flanks lines reads writes → Flanks (lines ++ line.Store a i v ∷ []) reads (a ∷ writes)
+flanks_store : (lines : List Line) (reads : List (Access Operand)) (writes : List ℕ) (a : ℕ) (i v : Operand) → is_read_at is_same reads a i ≡ true → not (is_written writes a) ≡ true → Flanks lines reads writes → Flanks (lines ++ line.Store a i v ∷ []) reads (a ∷ writes)
 flanks_store lines reads writes a i v r w f =
     record {
-      stand = flanked_append [] [] lines (line.Store a i v ∷ []) f.stand (and_from (flat.is_read_at (reads_of [] lines) a i && not (flat.is_written (writes_of [] lines) a)) true (and_from (flat.is_read_at (reads_of [] lines) a i) (not (flat.is_written (writes_of [] lines) a)) (subst (λ (rs : List Read). flat.is_read_at rs a i ≡ true) (sym f.read_so) r) (subst (λ (ws : List ℕ). not (flat.is_written ws a) ≡ true) (sym f.written_so) w)) refl);
+      stand = flanked_append [] [] lines (line.Store a i v ∷ []) f.stand (and_from (is_read_at is_same (reads_of [] lines) a i && not (is_written (writes_of [] lines) a)) true (and_from (is_read_at is_same (reads_of [] lines) a i) (not (is_written (writes_of [] lines) a)) (subst (λ (rs : List (Access Operand)). is_read_at is_same rs a i ≡ true) (sym f.read_so) r) (subst (λ (ws : List ℕ). not (is_written ws a) ≡ true) (sym f.written_so) w)) refl);
       read_so = reads_append [] lines (line.Store a i v ∷ []) ∙ f.read_so;
       written_so = writes_append [] lines (line.Store a i v ∷ []) ∙ ap (λ (ws : List ℕ). a ∷ ws) f.written_so;
     }
@@ -215,14 +215,14 @@ within_before fields so_far (chain p os) h = tt
 within_before fields so_far (choice c p q) h = tt
 
 -- the reads of items and those of their statements
-abbrev pub Matched : List Operand → List ReadForm → List Read → Type 0
+abbrev pub Matched : List Operand → List (Access PartForm) → List (Access Operand) → Type 0
 Matched values [] [] = ⊤
 Matched values [] (q ∷ qs) = ⊥
 Matched values (r ∷ rs) [] = ⊥
 Matched values (r ∷ rs) (q ∷ qs) =
     ((r.array ≡ q.array) × (operand_of values r.index ≡ q.index) × IsBefore (length values) r.index) × Matched values rs qs
 
-matched_more : (values : List Operand) (x : Operand) (rs : List ReadForm) (qs : List Read) → Matched values rs qs → Matched (values ++ x ∷ []) rs qs
+matched_more : (values : List Operand) (x : Operand) (rs : List (Access PartForm)) (qs : List (Access Operand)) → Matched values rs qs → Matched (values ++ x ∷ []) rs qs
 matched_more values x [] [] m = tt
 matched_more values x [] (q ∷ qs) m = absurd m
 matched_more values x (r ∷ rs) [] m = absurd m
@@ -231,14 +231,14 @@ matched_more values x (r ∷ rs) (q ∷ qs) m =
     let before : IsBefore (length (values ++ x ∷ [])) r.index = subst (λ (n : ℕ). IsBefore n r.index) (let e : suc (length values) ≡ length (values ++ x ∷ []) = omega arith in e) (before_more (length values) r.index m.0.2) in
     ((m.0.0, operand_stays values x r.index m.0.2 ∙ m.0.1, before), matched_more values x rs qs m.1)
 
-matched_read : (values : List Operand) (rs : List ReadForm) (qs : List Read) (a : ℕ) → Matched values rs qs → is_read rs a ≡ flat.is_read qs a
+matched_read : (values : List Operand) (rs : List (Access PartForm)) (qs : List (Access Operand)) (a : ℕ) → Matched values rs qs → is_read rs a ≡ is_read qs a
 matched_read values [] [] a m = refl
 matched_read values [] (q ∷ qs) a m = absurd m
 matched_read values (r ∷ rs) [] a m = absurd m
 matched_read values (r ∷ rs) (q ∷ qs) a m =
     ap (λ (x : ℕ). nat_eq x a || is_read rs a) m.0.0 ∙ ap (λ (b : Bool). nat_eq q.array a || b) (matched_read values rs qs a m.1)
 
-matched_at : (values : List Operand) (rs : List ReadForm) (qs : List Read) (a : ℕ) (i : PartForm) → Matched values rs qs → is_read_at rs a i ≡ true → flat.is_read_at qs a (operand_of values i) ≡ true
+matched_at : (values : List Operand) (rs : List (Access PartForm)) (qs : List (Access Operand)) (a : ℕ) (i : PartForm) → Matched values rs qs → is_read_at is_same_operand rs a i ≡ true → is_read_at is_same qs a (operand_of values i) ≡ true
 matched_at values [] [] a i m e = absurd (cc)
 matched_at values [] (q ∷ qs) a i m e = absurd m
 matched_at values (r ∷ rs) [] a i m e = absurd m
@@ -246,19 +246,19 @@ matched_at values (r ∷ rs) (q ∷ qs) a i m e =
     ⊎_elim (λ (h : (nat_eq r.array a && is_same_operand r.index i) ≡ true).
     let p = and_parts (nat_eq r.array a) (is_same_operand r.index i) h in
     let is : q.index ≡ operand_of values i = sym m.0.1 ∙ ap (operand_of values) (same_part r.index i p.1) in
-    or_left (nat_eq q.array a && is_same q.index (operand_of values i)) (flat.is_read_at qs a (operand_of values i))
+    or_left (nat_eq q.array a && is_same q.index (operand_of values i)) (is_read_at is_same qs a (operand_of values i))
     (and_from (nat_eq q.array a) (is_same q.index (operand_of values i)) (subst (λ (x : ℕ). nat_eq x a ≡ true) m.0.0 p.0) (subst (λ (o : Operand). is_same o (operand_of values i) ≡ true) (sym is) (same_itself (operand_of values i)))))
-    (λ (h : is_read_at rs a i ≡ true).
-    or_right (nat_eq q.array a && is_same q.index (operand_of values i)) (flat.is_read_at qs a (operand_of values i)) (matched_at values rs qs a i m.1 h))
-    (or_cases (nat_eq r.array a && is_same_operand r.index i) (is_read_at rs a i) e)
+    (λ (h : is_read_at is_same_operand rs a i ≡ true).
+    or_right (nat_eq q.array a && is_same q.index (operand_of values i)) (is_read_at is_same qs a (operand_of values i)) (matched_at values rs qs a i m.1 h))
+    (or_cases (nat_eq r.array a && is_same_operand r.index i) (is_read_at is_same_operand rs a i) e)
 
 module _ (fields arrays : ℕ) where
   -- a draft after items that make these values, with these reads and writes
-  pub record Drafted (so_far : List Bool) (reads : List ReadForm) (writes : List ℕ) (d : Draft) : Type 0 where
+  pub record Drafted (so_far : List Bool) (reads : List (Access PartForm)) (writes : List ℕ) (d : Draft) : Type 0 where
     pub size : length d.values ≡ length so_far
     pub lines : Ordered fields arrays d.lines
     pub there : AreThere fields arrays so_far d.values d.lines
-    pub found : List Read
+    pub found : List (Access Operand)
     pub matched : Matched d.values reads found
     pub flanks : Flanks d.lines found writes
 
@@ -288,7 +288,7 @@ module _ (fields arrays : ℕ) where
   sizes_more : (so_far : List Bool) (b : Bool) (values : List Operand) (x : Operand) → length values ≡ length so_far → length (values ++ x ∷ []) ≡ length (so_far ++ b ∷ [])
   sizes_more so_far b values x e = let p = length_push values x in let q = length_push so_far b in omega arith
 
-  make_drafted : (so_far : List Bool) (reads : List ReadForm) (writes : List ℕ) (d : Draft) (p : PartForm) → part_within (named_ranges fields so_far) p ≡ true → Drafted so_far reads writes d → Drafted (so_far ++ true ∷ []) reads writes (with_item fields d (make p))
+  make_drafted : (so_far : List Bool) (reads : List (Access PartForm)) (writes : List ℕ) (d : Draft) (p : PartForm) → part_within (named_ranges fields so_far) p ≡ true → Drafted so_far reads writes d → Drafted (so_far ++ true ∷ []) reads writes (with_item fields d (make p))
   make_drafted so_far reads writes d p h s =
       let f = flattened fields d.values d.lines 0 p in
       let g = grows fields d.values d.lines 0 p in
@@ -307,7 +307,7 @@ module _ (fields arrays : ℕ) where
       let q = and_parts (is_operand p) (part_within (named_ranges fields so_far) p) h in
       subst (λ (f : Flattened). is_known (values_of fields f.lines) f.operand ≡ true) (operand_flattened fields values lines p q.0) (places fields arrays so_far values lines 0 p refl t s q.1).operand
 
-  read_drafted : (so_far : List Bool) (reads : List ReadForm) (writes : List ℕ) (d : Draft) (a : ℕ) (i : PartForm) → nat_lt a arrays ≡ true → operand_within fields so_far i ≡ true → not (is_read reads a) ≡ true → Drafted so_far reads writes d
+  read_drafted : (so_far : List Bool) (reads : List (Access PartForm)) (writes : List ℕ) (d : Draft) (a : ℕ) (i : PartForm) → nat_lt a arrays ≡ true → operand_within fields so_far i ≡ true → not (is_read reads a) ≡ true → Drafted so_far reads writes d
       → Drafted (so_far ++ true ∷ []) (record { array = a; index = i } ∷ reads) writes (with_item fields d (read a i))
   read_drafted so_far reads writes d a i ha hi hr s =
       let o = operand_of d.values i in
@@ -331,7 +331,7 @@ module _ (fields arrays : ℕ) where
         flanks = flanks_fetch d.lines s.found writes a o (ap not (sym (matched_read d.values reads s.found a s.matched)) ∙ hr) s.flanks;
       })
 
-  write_drafted : (so_far : List Bool) (reads : List ReadForm) (writes : List ℕ) (d : Draft) (a : ℕ) (i p : PartForm) → nat_lt a arrays ≡ true → operand_within fields so_far i ≡ true → operand_within fields so_far p ≡ true → is_read_at reads a i ≡ true → not (is_written writes a) ≡ true → Drafted so_far reads writes d
+  write_drafted : (so_far : List Bool) (reads : List (Access PartForm)) (writes : List ℕ) (d : Draft) (a : ℕ) (i p : PartForm) → nat_lt a arrays ≡ true → operand_within fields so_far i ≡ true → operand_within fields so_far p ≡ true → is_read_at is_same_operand reads a i ≡ true → not (is_written writes a) ≡ true → Drafted so_far reads writes d
       → Drafted (so_far ++ false ∷ []) reads (a ∷ writes) (with_item fields d (write a i p))
   write_drafted so_far reads writes d a i p ha hi hp hr hw s =
       let o = operand_of d.values i in
@@ -360,33 +360,31 @@ module _ (fields arrays : ℕ) where
 
   -- a draft at the end of items
   pub record Ending (so_far : List Bool) (d : Draft) : Type 0 where
-    pub reads : List ReadForm
+    pub reads : List (Access PartForm)
     pub writes : List ℕ
     pub drafted : Drafted so_far reads writes d
 
-  pub items_drafted : (items : List NamedForm) (so_far : List Bool) (reads : List ReadForm) (writes : List ℕ) (d : Draft) → are_named fields arrays so_far reads writes items ≡ true → Drafted so_far reads writes d → Ending (so_far ++ makes_of items) (with_items fields d items)
-  items_drafted [] so_far reads writes d h s =
+  pub items_drafted : (items : List NamedForm) (so_far : List Bool) (reads : List (Access PartForm)) (writes : List ℕ) (d : Draft) → are_named fields arrays so_far items ≡ true → are_ordered is_same_operand reads writes (map item_event items) ≡ true → Drafted so_far reads writes d → Ending (so_far ++ makes_of items) (with_items fields d items)
+  items_drafted [] so_far reads writes d h g s =
       subst (λ (bs : List Bool). Ending bs d) (sym (append-nil so_far)) (record { reads = reads; writes = writes; drafted = s })
-  items_drafted (read a i ∷ items) so_far reads writes d h s =
-      let rest = are_named fields arrays (so_far ++ true ∷ []) (record { array = a; index = i } ∷ reads) writes items in
-      let x = and_parts (nat_lt a arrays) (operand_within fields so_far i && (not (is_read reads a) && rest)) h in
-      let y = and_parts (operand_within fields so_far i) (not (is_read reads a) && rest) x.1 in
-      let z = and_parts (not (is_read reads a)) rest y.1 in
+  items_drafted (read a i ∷ items) so_far reads writes d h g s =
+      let x = and_parts (nat_lt a arrays && operand_within fields so_far i) (are_named fields arrays (so_far ++ true ∷ []) items) h in
+      let y = and_parts (nat_lt a arrays) (operand_within fields so_far i) x.0 in
+      let z = and_parts (not (is_read reads a)) (are_ordered is_same_operand (record { array = a; index = i } ∷ reads) writes (map item_event items)) g in
       subst (λ (bs : List Bool). Ending bs (with_items fields d (read a i ∷ items))) (append_assoc so_far (true ∷ []) (makes_of items))
-      (items_drafted items (so_far ++ true ∷ []) (record { array = a; index = i } ∷ reads) writes (with_item fields d (read a i)) z.1 (read_drafted so_far reads writes d a i x.0 y.0 z.0 s))
-  items_drafted (make p ∷ items) so_far reads writes d h s =
-      let x = and_parts (part_within (named_ranges fields so_far) p) (are_named fields arrays (so_far ++ true ∷ []) reads writes items) h in
+      (items_drafted items (so_far ++ true ∷ []) (record { array = a; index = i } ∷ reads) writes (with_item fields d (read a i)) x.1 z.1 (read_drafted so_far reads writes d a i y.0 y.1 z.0 s))
+  items_drafted (make p ∷ items) so_far reads writes d h g s =
+      let x = and_parts (part_within (named_ranges fields so_far) p) (are_named fields arrays (so_far ++ true ∷ []) items) h in
       subst (λ (bs : List Bool). Ending bs (with_items fields d (make p ∷ items))) (append_assoc so_far (true ∷ []) (makes_of items))
-      (items_drafted items (so_far ++ true ∷ []) reads writes (with_item fields d (make p)) x.1 (make_drafted so_far reads writes d p x.0 s))
-  items_drafted (write a i p ∷ items) so_far reads writes d h s =
-      let rest = are_named fields arrays (so_far ++ false ∷ []) reads (a ∷ writes) items in
-      let x = and_parts (nat_lt a arrays) (operand_within fields so_far i && (operand_within fields so_far p && (is_read_at reads a i && (not (is_written writes a) && rest)))) h in
-      let y = and_parts (operand_within fields so_far i) (operand_within fields so_far p && (is_read_at reads a i && (not (is_written writes a) && rest))) x.1 in
-      let z = and_parts (operand_within fields so_far p) (is_read_at reads a i && (not (is_written writes a) && rest)) y.1 in
-      let v = and_parts (is_read_at reads a i) (not (is_written writes a) && rest) z.1 in
-      let w = and_parts (not (is_written writes a)) rest v.1 in
+      (items_drafted items (so_far ++ true ∷ []) reads writes (with_item fields d (make p)) x.1 g (make_drafted so_far reads writes d p x.0 s))
+  items_drafted (write a i p ∷ items) so_far reads writes d h g s =
+      let x = and_parts (nat_lt a arrays && (operand_within fields so_far i && operand_within fields so_far p)) (are_named fields arrays (so_far ++ false ∷ []) items) h in
+      let y = and_parts (nat_lt a arrays) (operand_within fields so_far i && operand_within fields so_far p) x.0 in
+      let o = and_parts (operand_within fields so_far i) (operand_within fields so_far p) y.1 in
+      let z = and_parts (is_read_at is_same_operand reads a i && not (is_written writes a)) (are_ordered is_same_operand reads (a ∷ writes) (map item_event items)) g in
+      let w = and_parts (is_read_at is_same_operand reads a i) (not (is_written writes a)) z.0 in
       subst (λ (bs : List Bool). Ending bs (with_items fields d (write a i p ∷ items))) (append_assoc so_far (false ∷ []) (makes_of items))
-      (items_drafted items (so_far ++ false ∷ []) reads (a ∷ writes) (with_item fields d (write a i p)) w.1 (write_drafted so_far reads writes d a i p x.0 y.0 z.0 v.0 w.0 s))
+      (items_drafted items (so_far ++ false ∷ []) reads (a ∷ writes) (with_item fields d (write a i p)) x.1 z.1 (write_drafted so_far reads writes d a i p y.0 o.0 o.1 w.0 w.1 s))
 
   pub outputs_within : (so_far : List Bool) (outputs : List PartForm) → are_outputs fields so_far outputs ≡ true → parts_within (named_ranges fields so_far) (parts_of outputs) ≡ true
   outputs_within so_far [] h = refl
@@ -403,8 +401,8 @@ module _ (fields arrays : ℕ) where
     pub flanks : are_flanked [] [] all.lines ≡ true
     pub outputs : are_known (values_of fields all.lines) all.operands ≡ true
 
-  pub whole : (items : List NamedForm) (outputs : List PartForm) → are_named fields arrays [] [] [] items ≡ true → are_outputs fields (makes_of items) outputs ≡ true → Whole (all_statements fields items outputs)
-  whole items outputs h o =
+  pub whole : (items : List NamedForm) (outputs : List PartForm) → are_named fields arrays [] items ≡ true → are_in_order items ≡ true → are_outputs fields (makes_of items) outputs ≡ true → Whole (all_statements fields items outputs)
+  whole items outputs h g o =
       let start : Drafted [] [] [] (draft [] []) = record {
         size = refl;
         lines = record { order = refl; ranges = refl; moduli = refl };
@@ -413,7 +411,7 @@ module _ (fields arrays : ℕ) where
         matched = tt;
         flanks = record { stand = refl; read_so = refl; written_so = refl };
       } in
-      let ending = items_drafted items [] [] [] (draft [] []) h start in
+      let ending = items_drafted items [] [] [] (draft [] []) h g start in
       let d = with_items fields (draft [] []) items in
       let s = ending.drafted in
       let placed = all_place fields arrays (makes_of items) d.values d.lines (parts_of outputs) s.there s.lines (outputs_within (makes_of items) outputs o) in

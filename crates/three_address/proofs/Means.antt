@@ -1,5 +1,5 @@
 -- The statements of a list with one name for each value mean what the list means.
-use Rattle.std.proofs.Common.{◌≡◌, ℕ, suc, ◌+◌, ◌%◌, ◌<◌, ◌≤◌, ◌==◌, ◌&&◌, nat_eq, nat_le, nat_lt, Bool, true, false, List, [], ◌∷◌, ◌++◌, length, map, refl, sym, ap, ◌∙◌, subst, arith, append_assoc, get_or, not, inl, inr, ⊎_elim, ◌⊎◌, if◌then◌else◌}
+use Rattle.std.proofs.Common.{◌≡◌, ℕ, suc, ◌+◌, ◌%◌, ◌<◌, ◌≤◌, ◌==◌, ◌&&◌, nat_eq, nat_le, nat_lt, Bool, true, false, List, [], ◌∷◌, ◌++◌, length, map, refl, sym, ap, ◌∙◌, subst, arith, append_assoc, get_or, inl, inr, ⊎_elim, ◌⊎◌, if◌then◌else◌}
 use Rattle.std.specs.Prelude.{ℤ, int_rem, pos, slice_index}
 use Rattle.std.specs.Int.{w32}
 use Rattle.std.specs.List.{AllByRecursion as Every}
@@ -17,7 +17,7 @@ use Rattle.dom_words.specs.declared.operators.BinOp.{BinOp}
 use Rattle.dom_words.specs.declared.operators.BinOp.TheVariants as binop
 use Rattle.dom_ast.specs.Kept.{count_of, ops_within, part_within, parts_within}
 use Rattle.dom_ast.specs.Meaning.{Names, value, values as words_of, folded as folded_word}
-use Rattle.dom_ast.specs.Named.{NamedEnv, NamedForm, ReadForm, all_named, are_named, are_outputs, is_operand, is_read, is_read_at, is_written, make, makes_of, named_names, named_outcome, named_ranges, named_step, named_value, operand_within, read, write}
+use Rattle.dom_ast.specs.Named.{NamedEnv, NamedForm, all_named, are_named, are_outputs, is_operand, make, makes_of, named_names, named_outcome, named_ranges, named_step, named_value, operand_within, read, write}
 use Rattle.dom_ast.specs.Resolved.{PartForm, number, field, state, fresh, made, call, un, chain, choice, PartForms, no_parts, part, OpForms, no_ops, op, parts_of}
 use Rattle.dom_flat.specs.declared.line.Operand.{Operand}
 use Rattle.dom_flat.specs.declared.line.Operand.TheVariants.{Const, Value}
@@ -464,38 +464,33 @@ module _ (hash : Hash) (fields : ℕ) (packet : List ℕ) (start : List (List �
           holds = holds_more so_far false d.values env.made (f'.lines ++ l ∷ []) (Value (fields + length f'.lines)) 0 r.size r.makings (λ x. absurd (let c : false ≡ true = x in cc)) (λ x. absurd (let c : false ≡ true = x in cc)) held';
         }
 
-    items_run : (arrays : ℕ) (items : List NamedForm) (so_far : List Bool) (reads : List ReadForm) (writes : List ℕ) (d : Draft) (env : NamedEnv) → are_named fields arrays so_far reads writes items ≡ true → Runs so_far d env → Runs (so_far ++ makes_of items) (with_items fields d items) (all_named hash packet env items)
-    items_run arrays [] so_far reads writes d env h r = subst (λ (bs : List Bool). Runs bs d env) (sym (append-nil so_far)) r
-    items_run arrays (read a i ∷ items) so_far reads writes d env h r =
-        let rest = are_named fields arrays (so_far ++ true ∷ []) (record { array = a; index = i } ∷ reads) writes items in
-        let x = and_parts (nat_lt a arrays) (operand_within fields so_far i && (not (is_read reads a) && rest)) h in
-        let y = and_parts (operand_within fields so_far i) (not (is_read reads a) && rest) x.1 in
-        let z = and_parts (not (is_read reads a)) rest y.1 in
-        let i' = (and_parts (is_operand i) (part_within (named_ranges fields so_far) i) y.0).1 in
+    items_run : (arrays : ℕ) (items : List NamedForm) (so_far : List Bool) (d : Draft) (env : NamedEnv) → are_named fields arrays so_far items ≡ true → Runs so_far d env → Runs (so_far ++ makes_of items) (with_items fields d items) (all_named hash packet env items)
+    items_run arrays [] so_far d env h r = subst (λ (bs : List Bool). Runs bs d env) (sym (append-nil so_far)) r
+    items_run arrays (read a i ∷ items) so_far d env h r =
+        let x = and_parts (nat_lt a arrays && operand_within fields so_far i) (are_named fields arrays (so_far ++ true ∷ []) items) h in
+        let y = and_parts (nat_lt a arrays) (operand_within fields so_far i) x.0 in
+        let i' = (and_parts (is_operand i) (part_within (named_ranges fields so_far) i) y.1).1 in
         subst (λ (bs : List Bool). Runs bs (with_items fields d (read a i ∷ items)) (all_named hash packet env (read a i ∷ items))) (append_assoc so_far (true ∷ []) (makes_of items))
-        (items_run arrays items (so_far ++ true ∷ []) (record { array = a; index = i } ∷ reads) writes (with_item fields d (read a i)) (named_step hash packet env (read a i)) z.1 (read_runs so_far d env a i i' r))
-    items_run arrays (make p ∷ items) so_far reads writes d env h r =
-        let x = and_parts (part_within (named_ranges fields so_far) p) (are_named fields arrays (so_far ++ true ∷ []) reads writes items) h in
+        (items_run arrays items (so_far ++ true ∷ []) (with_item fields d (read a i)) (named_step hash packet env (read a i)) x.1 (read_runs so_far d env a i i' r))
+    items_run arrays (make p ∷ items) so_far d env h r =
+        let x = and_parts (part_within (named_ranges fields so_far) p) (are_named fields arrays (so_far ++ true ∷ []) items) h in
         subst (λ (bs : List Bool). Runs bs (with_items fields d (make p ∷ items)) (all_named hash packet env (make p ∷ items))) (append_assoc so_far (true ∷ []) (makes_of items))
-        (items_run arrays items (so_far ++ true ∷ []) reads writes (with_item fields d (make p)) (named_step hash packet env (make p)) x.1 (make_runs so_far d env p x.0 r))
-    items_run arrays (write a i p ∷ items) so_far reads writes d env h r =
-        let rest = are_named fields arrays (so_far ++ false ∷ []) reads (a ∷ writes) items in
-        let x = and_parts (nat_lt a arrays) (operand_within fields so_far i && (operand_within fields so_far p && (is_read_at reads a i && (not (is_written writes a) && rest)))) h in
-        let y = and_parts (operand_within fields so_far i) (operand_within fields so_far p && (is_read_at reads a i && (not (is_written writes a) && rest))) x.1 in
-        let z = and_parts (operand_within fields so_far p) (is_read_at reads a i && (not (is_written writes a) && rest)) y.1 in
-        let v = and_parts (is_read_at reads a i) (not (is_written writes a) && rest) z.1 in
-        let w = and_parts (not (is_written writes a)) rest v.1 in
-        let i' = (and_parts (is_operand i) (part_within (named_ranges fields so_far) i) y.0).1 in
-        let p' = (and_parts (is_operand p) (part_within (named_ranges fields so_far) p) z.0).1 in
+        (items_run arrays items (so_far ++ true ∷ []) (with_item fields d (make p)) (named_step hash packet env (make p)) x.1 (make_runs so_far d env p x.0 r))
+    items_run arrays (write a i p ∷ items) so_far d env h r =
+        let x = and_parts (nat_lt a arrays && (operand_within fields so_far i && operand_within fields so_far p)) (are_named fields arrays (so_far ++ false ∷ []) items) h in
+        let y = and_parts (nat_lt a arrays) (operand_within fields so_far i && operand_within fields so_far p) x.0 in
+        let o = and_parts (operand_within fields so_far i) (operand_within fields so_far p) y.1 in
+        let i' = (and_parts (is_operand i) (part_within (named_ranges fields so_far) i) o.0).1 in
+        let p' = (and_parts (is_operand p) (part_within (named_ranges fields so_far) p) o.1).1 in
         subst (λ (bs : List Bool). Runs bs (with_items fields d (write a i p ∷ items)) (all_named hash packet env (write a i p ∷ items))) (append_assoc so_far (false ∷ []) (makes_of items))
-        (items_run arrays items (so_far ++ false ∷ []) reads (a ∷ writes) (with_item fields d (write a i p)) (named_step hash packet env (write a i p)) w.1 (write_runs so_far d env a i p i' p' r))
+        (items_run arrays items (so_far ++ false ∷ []) (with_item fields d (write a i p)) (named_step hash packet env (write a i p)) x.1 (write_runs so_far d env a i p i' p' r))
 
     words_list : (env : NamedEnv) (ps : List PartForm) → words_of hash (named_names packet env.made) (parts_of ps) ≡ map (named_value hash packet env) ps
     words_list env [] = refl
     words_list env (p ∷ ps) = ap (λ (ws : List ℕ). named_value hash packet env p ∷ ws) (words_list env ps)
 
     -- all statements mean what the items mean
-    pub all_mean : (arrays : ℕ) (items : List NamedForm) (outputs : List PartForm) → are_named fields arrays [] [] [] items ≡ true → are_outputs fields (makes_of items) outputs ≡ true
+    pub all_mean : (arrays : ℕ) (items : List NamedForm) (outputs : List PartForm) → are_named fields arrays [] items ≡ true → are_outputs fields (makes_of items) outputs ≡ true
         → flat_outcome hash (all_statements fields items outputs).lines (all_statements fields items outputs).operands packet start ≡ named_outcome hash items outputs packet start
     all_mean arrays items outputs h o =
         let begin : NamedEnv = record { arrays = start; made = [] } in
@@ -506,7 +501,7 @@ module _ (hash : Hash) (fields : ℕ) (packet : List ℕ) (start : List (List �
           arrays = refl;
           holds = record { entered = λ f e. refl; below = λ k e. absurd (none k e); made = λ k e. absurd (none k e) };
         } in
-        let r = items_run arrays items [] [] [] (draft [] []) begin h first in
+        let r = items_run arrays items [] (draft [] []) begin h first in
         let d = with_items fields (draft [] []) items in
         let env = all_named hash packet begin items in
         let ends = all_flattened fields d.values d.lines (parts_of outputs) in

@@ -1,7 +1,7 @@
 -- What holds of the statement list.
 use Rattle.std.proofs.Common.{◌≡◌, ℕ, ◌+◌, ◌≤◌, true, Bool, false, List, [], length, map, refl, sym, ap, ◌∙◌, subst, arith}
 use Rattle.std.proofs.lemmas.List.{length-map, length-replicate}
-use Rattle.dom_ast.specs.Named.{NamedForm, are_named, are_outputs, makes_of}
+use Rattle.dom_ast.specs.Named.{NamedForm, are_in_order, are_named, are_outputs, makes_of}
 use Rattle.dom_ast.specs.Resolved.{PartForm}
 use Rattle.dom_flat.specs.declared.line.Operand.{Operand}
 use Rattle.dom_flat.specs.declared.line.Line.{Line}
@@ -72,7 +72,8 @@ module _ (fields arrays : ℕ) (items : List NamedForm) (outputs : List PartForm
   pub record Made (lines : List Line) (operands : List Operand) : Type 0 where
     pub lines_are : lines ≡ (all_statements fields items outputs).lines
     pub operands_are : operands ≡ (all_statements fields items outputs).operands
-    pub named : are_named fields arrays [] [] [] items ≡ true
+    pub named : are_named fields arrays [] items ≡ true
+    pub in_order : are_in_order items ≡ true
     pub outs : are_outputs fields (makes_of items) outputs ≡ true
 
   module _ (lines : List Line) (operands : List Operand) (m : Made lines operands) where
@@ -80,7 +81,7 @@ module _ (fields arrays : ℕ) (items : List NamedForm) (outputs : List PartForm
     all_are = ap (λ (ls : List Line). all_of ls operands) m.lines_are ∙ ap (all_of (all_statements fields items outputs).lines) m.operands_are
 
     pub whole_of : Whole fields arrays (all_of lines operands)
-    whole_of = subst (Whole fields arrays) (sym all_are) (whole fields arrays items outputs m.named m.outs)
+    whole_of = subst (Whole fields arrays) (sym all_are) (whole fields arrays items outputs m.named m.in_order m.outs)
 
     pub made_ranges : lines_within arrays lines ≡ true
     made_ranges = whole_of.ranges
@@ -95,12 +96,12 @@ module _ (fields arrays : ℕ) (items : List NamedForm) (outputs : List PartForm
     made_only = ap (needed_only fields) all_are
 
 -- what a statement list is to keep
-module _ (fields arrays : ℕ) (items : List NamedForm) (outputs : List PartForm) (named : are_named fields arrays [] [] [] items ≡ true) (outs : are_outputs fields (makes_of items) outputs ≡ true) where
+module _ (fields arrays : ℕ) (items : List NamedForm) (outputs : List PartForm) (named : are_named fields arrays [] items ≡ true) (in_order : are_in_order items ≡ true) (outs : are_outputs fields (makes_of items) outputs ≡ true) where
   abbrev marks : List Bool
   marks = needed (all_statements fields items outputs).lines (all_statements fields items outputs).operands fields (all_statements fields items outputs).lines
 
   whole_all : Whole fields arrays (all_statements fields items outputs)
-  whole_all = whole fields arrays items outputs named outs
+  whole_all = whole fields arrays items outputs named in_order outs
 
   left : Left fields (all_statements fields items outputs).lines (all_statements fields items outputs).operands marks (entered fields) (entered fields) fields (all_statements fields items outputs).lines
   left =
@@ -138,7 +139,8 @@ pub record IsList (lines : List Line) (operands : List Operand) (fields arrays :
   pub ys_are : ys ≡ outputs
   pub lines_are : lines ≡ (statements n xs ys).lines
   pub operands_are : operands ≡ (statements n xs ys).operands
-  pub named : are_named fields arrays [] [] [] items ≡ true
+  pub named : are_named fields arrays [] items ≡ true
+  pub in_order : are_in_order items ≡ true
   pub outs : are_outputs fields (makes_of items) outputs ≡ true
 
 module _ (lines : List Line) (operands : List Operand) (fields arrays : ℕ) (items : List NamedForm) (outputs : List PartForm) (l : IsList lines operands fields arrays items outputs) where
@@ -153,21 +155,21 @@ module _ (lines : List Line) (operands : List Operand) (fields arrays : ℕ) (it
   list_operands = l.operands_are ∙ ap (λ (x : AllFlattened). x.operands) same
 
   pub list_order : are_after (entered fields) lines ≡ true
-  list_order = subst (λ (ls : List Line). are_after (entered fields) ls ≡ true) (sym list_lines) (statements_order fields arrays items outputs l.named l.outs)
+  list_order = subst (λ (ls : List Line). are_after (entered fields) ls ≡ true) (sym list_lines) (statements_order fields arrays items outputs l.named l.in_order l.outs)
 
   pub list_ranges : lines_within arrays lines ≡ true
-  list_ranges = subst (λ (ls : List Line). lines_within arrays ls ≡ true) (sym list_lines) (statements_ranges fields arrays items outputs l.named l.outs)
+  list_ranges = subst (λ (ls : List Line). lines_within arrays ls ≡ true) (sym list_lines) (statements_ranges fields arrays items outputs l.named l.in_order l.outs)
 
   pub list_moduli : have_small_moduli lines ≡ true
-  list_moduli = subst (λ (ls : List Line). have_small_moduli ls ≡ true) (sym list_lines) (statements_moduli fields arrays items outputs l.named l.outs)
+  list_moduli = subst (λ (ls : List Line). have_small_moduli ls ≡ true) (sym list_lines) (statements_moduli fields arrays items outputs l.named l.in_order l.outs)
 
   pub list_flanks : are_flanked [] [] lines ≡ true
-  list_flanks = subst (λ (ls : List Line). are_flanked [] [] ls ≡ true) (sym list_lines) (statements_flanks fields arrays items outputs l.named l.outs)
+  list_flanks = subst (λ (ls : List Line). are_flanked [] [] ls ≡ true) (sym list_lines) (statements_flanks fields arrays items outputs l.named l.in_order l.outs)
 
   pub list_outputs : are_known (values_of fields lines) operands ≡ true
   list_outputs =
       subst (λ (ls : List Line). are_known (values_of fields ls) operands ≡ true) (sym list_lines)
-      (subst (λ (os : List Operand). are_known (values_of fields (statements fields items outputs).lines) os ≡ true) (sym list_operands) (statements_outputs fields arrays items outputs l.named l.outs))
+      (subst (λ (os : List Operand). are_known (values_of fields (statements fields items outputs).lines) os ≡ true) (sym list_operands) (statements_outputs fields arrays items outputs l.named l.in_order l.outs))
 
   pub list_outs : length operands ≡ length outputs
-  list_outs = ap length list_operands ∙ statements_outs fields arrays items outputs l.named l.outs
+  list_outs = ap length list_operands ∙ statements_outs fields arrays items outputs l.named l.in_order l.outs

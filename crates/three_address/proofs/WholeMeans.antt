@@ -16,7 +16,7 @@ pub list_means : (lines : List Line) (operands : List Operand) (fields arrays : 
     → flat_outcome hash lines operands packet state ≡ named_outcome hash items outputs packet state
 list_means lines operands fields arrays items outputs l hash packet state small fits =
     let all = all_statements fields items outputs in
-    let w = whole fields arrays items outputs l.named l.outs in
+    let w = whole fields arrays items outputs l.named l.in_order l.outs in
     ap (λ (ls : List Line). flat_outcome hash ls operands packet state) (list_lines lines operands fields arrays items outputs l)
     ∙ ap (λ (os : List Operand). flat_outcome hash (statements fields items outputs).lines os packet state) (list_operands lines operands fields arrays items outputs l)
     ∙ needed_mean hash fields all.lines all.operands packet state fits w.order w.outputs

@@ -1,6 +1,6 @@
 ghost use Rattle.std.specs.Prelude.{◌≡◌, ◌+◌, ◌<◌, ◌≤◌, ◌^◌, [], IfErr, IfOk, length, map, true};
 ghost use Rattle.dom_words.specs.State.{AgreeUnder, IsSmallHash};
-ghost use Rattle.dom_ast.specs.Named.{are_named, are_outputs, makes_of, named_form, named_nodes, named_outcome};
+ghost use Rattle.dom_ast.specs.Named.{are_in_order, are_named, are_outputs, makes_of, named_form, named_nodes, named_outcome};
 ghost use Rattle.dom_ast.specs.Resolved.{form};
 ghost use Rattle.dom_flat.specs.Kept.{are_after, are_below, entered, have_words, lines_have_words, lines_within};
 ghost use Rattle.dom_flat.specs.Meaning.{flat_outcome};
@@ -56,7 +56,8 @@ fn needed_statements(
 ) -> Result<(LineList, Operands), FlatFault>
     requires few { named_nodes (map named_form items.now) (map form outputs.now) < 2 ^ 25 }
     requires few_fields { fields ≤ 64 }
-    requires ranges { are_named fields arrays [] [] [] (map named_form items.now) ≡ true }
+    requires ranges { are_named fields arrays [] (map named_form items.now) ≡ true }
+    requires order { are_in_order (map named_form items.now) ≡ true }
     requires output_ranges { are_outputs fields (makes_of (map named_form items.now)) (map form outputs.now) ≡ true }
     ensures lines { IfOk result (λ r. r.0 ≡ (statements fields (map named_form items.now) (map form outputs.now)).lines) }
     ensures outputs { IfOk result (λ r. r.1 ≡ (statements fields (map named_form items.now) (map form outputs.now)).operands) }

@@ -6,12 +6,12 @@ use Rattle.three_address.proofs.pass.needed_statements.Goals as goal
 
 pub keep_needed-requires-clause-ranges : goal.keep_needed-requires-clause-ranges
 keep_needed-requires-clause-ranges c =
-    made_ranges c.args.fields c.args.arrays (map named_form c.args.items.now) (map form c.args.outputs.now) _ c.as_slice-2.result.now (record { lines_are = c.as_slice.ensures ∙ c.in-Ok.ensures.lines; operands_are = c.as_slice-2.ensures ∙ c.in-Ok.ensures.operands; named = c.requires.ranges; outs = c.requires.output_ranges })
+    made_ranges c.args.fields c.args.arrays (map named_form c.args.items.now) (map form c.args.outputs.now) _ c.as_slice-2.result.now (record { lines_are = c.as_slice.ensures ∙ c.in-Ok.ensures.lines; operands_are = c.as_slice-2.ensures ∙ c.in-Ok.ensures.operands; named = c.requires.ranges; in_order = c.requires.order; outs = c.requires.output_ranges })
 
 pub keep_needed-requires-clause-order : goal.keep_needed-requires-clause-order
 keep_needed-requires-clause-order c =
-    made_order c.args.fields c.args.arrays (map named_form c.args.items.now) (map form c.args.outputs.now) _ c.as_slice-2.result.now (record { lines_are = c.as_slice.ensures ∙ c.in-Ok.ensures.lines; operands_are = c.as_slice-2.ensures ∙ c.in-Ok.ensures.operands; named = c.requires.ranges; outs = c.requires.output_ranges })
+    made_order c.args.fields c.args.arrays (map named_form c.args.items.now) (map form c.args.outputs.now) _ c.as_slice-2.result.now (record { lines_are = c.as_slice.ensures ∙ c.in-Ok.ensures.lines; operands_are = c.as_slice-2.ensures ∙ c.in-Ok.ensures.operands; named = c.requires.ranges; in_order = c.requires.order; outs = c.requires.output_ranges })
 
 pub keep_needed-requires-clause-outputs : goal.keep_needed-requires-clause-outputs
 keep_needed-requires-clause-outputs c =
-    made_outputs c.args.fields c.args.arrays (map named_form c.args.items.now) (map form c.args.outputs.now) _ _ (record { lines_are = c.as_slice.ensures ∙ c.in-Ok.ensures.lines; operands_are = c.as_slice-2.ensures ∙ c.in-Ok.ensures.operands; named = c.requires.ranges; outs = c.requires.output_ranges })
+    made_outputs c.args.fields c.args.arrays (map named_form c.args.items.now) (map form c.args.outputs.now) _ _ (record { lines_are = c.as_slice.ensures ∙ c.in-Ok.ensures.lines; operands_are = c.as_slice-2.ensures ∙ c.in-Ok.ensures.operands; named = c.requires.ranges; in_order = c.requires.order; outs = c.requires.output_ranges })
