@@ -14,7 +14,8 @@ use Rattle.dom_ast.specs.declared.steps.Step.{Step}
 use Rattle.dom_ast.specs.Straight.{StepForm, step_form}
 use Rattle.branch_removal.specs.declared.branch.Branch.{Branch}
 use Rattle.branch_removal.specs.declared.branch.Branch.TheVariants.{Then, Else}
-use Rattle.branch_removal.specs.Branches.{acts_steps, act_steps, acts_ifs, guarded, step, within}
+use Rattle.branch_removal.specs.Branches.{acts_steps, act_steps, acts_ifs, guarded, step}
+use Rattle.branch_removal.specs.inner.Within.{within}
 
 within_inner : (bs : List Branch) (b : Branch) (s : StepForm) → within (bs ++ b ∷ []) s ≡ within bs (guarded b s)
 within_inner bs b s = ap (fold (λ s b. guarded b s) s) (reverse-append bs (b ∷ []))

@@ -1,5 +1,5 @@
 -- Branches as conditional moves: the list of steps of transactions.
-use Rattle.std.specs.Prelude.{ℕ, zero, suc, ◌+◌, List, [], ◌∷◌, ◌++◌, flat_map, fold, map, reverse, Option, Some, None}
+use Rattle.std.specs.Prelude.{ℕ, zero, suc, ◌+◌, List, [], ◌∷◌, ◌++◌, flat_map, map, Option, Some, None}
 use Rattle.dom_ast.specs.declared.part.Goal.{Goal}
 use Rattle.dom_ast.specs.declared.part.Goal.TheVariants as goal
 use Rattle.dom_ast.specs.Resolved.{PartForm, field, state, fresh, choice, ActForm, assign, branch, ActForms, no_acts, act, BodyForm}
@@ -105,7 +105,3 @@ given_names steps = flat_map (λ s. goal_names s.target) steps
 abbrev pub numbers : ℕ → ℕ → List ℕ
 numbers n zero = []
 numbers n (suc count) = n ∷ numbers (n + 1) count
-
--- a step of the innermost of these branches, each of which stands in the one before it
-abbrev pub within : List Branch → StepForm → StepForm
-within branches s = fold (λ s b. guarded b s) s (reverse branches)

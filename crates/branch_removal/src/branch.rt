@@ -3,7 +3,8 @@
 ghost use Rattle.std.specs.Prelude.{◌≡◌, IfOk};
 ghost use Rattle.dom_ast.specs.Resolved.{form};
 ghost use Rattle.dom_ast.specs.Straight.{step_form};
-ghost use Rattle.branch_removal.specs.Branches.{guarded as guarded_form, moved as moved_form, within as within_form};
+ghost use Rattle.branch_removal.specs.Branches.{guarded as guarded_form, moved as moved_form};
+ghost use Rattle.branch_removal.specs.inner.Within.{within as within_form};
 
 use crate::copy::boxed;
 use dom_ast::{Goal, Part, Step};

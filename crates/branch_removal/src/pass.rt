@@ -25,7 +25,7 @@ pub fn remove(alloc: Global, program: &Checked) -> Result<Straight, Memory>
     ensures names { IfOk result (λ s. given_names (map step_form s.steps) ≡ numbers 0 s.fresh) }
     ensures fields { IfOk result (λ s. s.fields ≡ program.now.fields) }
     ensures arrays { IfOk result (λ s. s.arrays ≡ program.now.arrays) }
-    ensures means { IfOk result (λ s. AgreeUnder (λ hash packet state. ⊤) (λ hash packet state. straight_outcome hash (map step_form s.steps) packet state) (λ hash packet state. one hash (bodies_form program.now.bodies) packet state)) }
+    ensures means { IfOk result (λ s. AgreeUnder (λ hash packet state. ⊤) (λ hash. straight_outcome hash (map step_form s.steps)) (λ hash. one hash (bodies_form program.now.bodies))) }
     ensures few { IfOk result (λ s. steps_nodes (map step_form s.steps) < 2 ^ 22) }
 {
     let fields = program.fields().copy(alloc)?;

@@ -3,7 +3,8 @@
 ghost use Rattle.std.specs.Prelude.{◌≡◌, ◌+◌, ◌<◌, ◌^◌, ◌++◌, [], ◌∷◌, IfOk, OnOk, map};
 ghost use Rattle.dom_ast.specs.Resolved.{act_form, act_forms, form};
 ghost use Rattle.dom_ast.specs.Straight.{step_form};
-ghost use Rattle.branch_removal.specs.Branches.{act_ifs, act_steps, acts_ifs, acts_steps, step as step_to, within as within_form};
+ghost use Rattle.branch_removal.specs.Branches.{act_ifs, act_steps, acts_ifs, acts_steps, step as step_to};
+ghost use Rattle.branch_removal.specs.inner.Within.{within as within_form};
 
 use crate::branch::{Branch, within};
 use crate::copy::copy;

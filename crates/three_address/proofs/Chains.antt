@@ -13,7 +13,8 @@ use Rattle.dom_flat.specs.declared.line.Operand.{Operand}
 use Rattle.dom_flat.specs.declared.line.Operand.TheVariants.{Value}
 use Rattle.dom_flat.specs.declared.line.Line.{Line}
 use Rattle.dom_flat.specs.declared.line.Line.TheVariants as line
-use Rattle.three_address.specs.Flattening.{Flattened, as_is, ended, first_modulus, flattened, folded, folded_later, taken_by}
+use Rattle.three_address.specs.Flattening.{Flattened, as_is, with_line, first_modulus, flattened, folded, folded_later}
+use Rattle.three_address.specs.inner.Taking.{taken_by}
 
 pub form_chain : (b : Box Part Global) (rest : List (BinOp × Part)) → form (Chain b rest) ≡ chain (form b.value) (op_forms rest)
 form_chain b rest = ap form (sym (rolls-Chain b rest)) ∙ fold-roll-Part PartForm part_step (Part-F.Chain b rest)
@@ -50,7 +51,7 @@ nodes_at k ops o h e = ap (λ (rest : List (BinOp × Part)). ops_nodes (op_forms
 abbrev with_op : ℕ → List Operand → Flattened → BinOp → PartForm → Flattened
 with_op fields values a o p =
     let b = flattened fields values a.lines 0 p in
-    ended fields b.lines (line.Bin o a.operand b.operand)
+    with_line fields b.lines (line.Bin o a.operand b.operand)
 
 -- and what is left after it
 pub op_step : (fields : ℕ) (values : List Operand) (before first after : List Line) (a b c : Operand) (k : ℕ) (ops : List (BinOp × Part)) (o : BinOp × Part) (whole : Flattened)

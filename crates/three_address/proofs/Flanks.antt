@@ -18,9 +18,9 @@ use Rattle.dom_flat.specs.Kept.{is_same, are_after, are_known, are_flanked, ente
 use Rattle.dom_flat.specs.Flanks.{flank_of}
 use Rattle.dom_flat.specs.Lines.{is_flank, makes as flat_makes}
 use Rattle.dom_flat.proofs.Facts.{flanked_first, flanked_rest}
-use Rattle.three_address.specs.Flattening.{AllFlattened, Flattened, all_flattened, as_is, ended, flattened}
+use Rattle.three_address.specs.Flattening.{AllFlattened, Flattened, all_flattened, as_is, with_line, flattened}
 use Rattle.three_address.specs.Statements.{Draft, all_statements, draft, item_flattened, with_item, with_items}
-use Rattle.three_address.proofs.Grown.{AreThere, Grown, Ordered, after_push, all_grow, all_place, grows, known_more, moduli_push, place_ended, values_append, places, there_grown, within_push}
+use Rattle.three_address.proofs.Grown.{AreThere, Grown, Ordered, after_push, all_grow, all_place, grows, known_more, moduli_push, place_line, values_append, places, there_grown, within_push}
 
 abbrev pub none_made : List Bool
 none_made = []
@@ -315,10 +315,10 @@ module _ (fields arrays : ℕ) where
       let after = d.lines ++ l ∷ [] in
       let x = Value (fields + length d.lines) in
       let q = and_parts (is_operand i) (part_within (named_ranges fields so_far) i) hi in
-      let is : ended fields d.lines l ≡ item_flattened fields d.values d.lines (read a i) =
-      ap (λ (f : Flattened). ended fields f.lines (line.Fetch a f.operand)) (sym (operand_flattened fields d.values d.lines i q.0)) in
+      let is : with_line fields d.lines l ≡ item_flattened fields d.values d.lines (read a i) =
+      ap (λ (f : Flattened). with_line fields f.lines (line.Fetch a f.operand)) (sym (operand_flattened fields d.values d.lines i q.0)) in
       let known = operand_known so_far d.values d.lines i s.lines s.there hi in
-      let placed = place_ended fields arrays d.lines l s.lines (and_from (is_known (values_of fields d.lines) o) true known refl) ha refl refl refl in
+      let placed = place_line fields arrays d.lines l s.lines (and_from (is_known (values_of fields d.lines) o) true known refl) ha refl refl refl in
       let grown_there : AreThere fields arrays so_far d.values after = λ k e. more_known d.lines l (get_or d.values k (Const 0)) (s.there k e) in
       let before : IsBefore (length d.values) i = subst (λ (n : ℕ). IsBefore n i) (sym s.size) (within_before fields so_far i q.1) in
       let size = length_push d.values x in
@@ -341,9 +341,9 @@ module _ (fields arrays : ℕ) where
       let x = Value (fields + length d.lines) in
       let q = and_parts (is_operand i) (part_within (named_ranges fields so_far) i) hi in
       let r = and_parts (is_operand p) (part_within (named_ranges fields so_far) p) hp in
-      let is : ended fields d.lines l ≡ item_flattened fields d.values d.lines (write a i p) =
-      ap (λ (f : Flattened). ended fields f.lines (line.Store a o f.operand)) (sym (operand_flattened fields d.values d.lines p r.0))
-      ∙ ap (λ (f : Flattened). ended fields (flattened fields d.values f.lines 0 p).lines (line.Store a f.operand (flattened fields d.values f.lines 0 p).operand)) (sym (operand_flattened fields d.values d.lines i q.0)) in
+      let is : with_line fields d.lines l ≡ item_flattened fields d.values d.lines (write a i p) =
+      ap (λ (f : Flattened). with_line fields f.lines (line.Store a o f.operand)) (sym (operand_flattened fields d.values d.lines p r.0))
+      ∙ ap (λ (f : Flattened). with_line fields (flattened fields d.values f.lines 0 p).lines (line.Store a f.operand (flattened fields d.values f.lines 0 p).operand)) (sym (operand_flattened fields d.values d.lines i q.0)) in
       let known_i = operand_known so_far d.values d.lines i s.lines s.there hi in
       let known_p = operand_known so_far d.values d.lines p s.lines s.there hp in
       let known : are_known (values_of fields d.lines) (o ∷ u ∷ []) ≡ true =

@@ -18,7 +18,7 @@ use Rattle.dom_flat.specs.declared.line.Line.{Line}
 use Rattle.dom_flat.specs.declared.line.Line.TheVariants as line
 use Rattle.dom_flat.specs.Kept.{are_after, are_known, entered, has_array, has_its_args, has_small_modulus, have_small_moduli, is_known, lines_within, values_of}
 use Rattle.dom_flat.specs.Lines.{is_flank, makes, operands_of}
-use Rattle.three_address.specs.Flattening.{AllFlattened, Flattened, all_flattened, ended, as_modulus, first_modulus, flattened, folded, folded_later, is_modulus, op_modulus, ops_modulus}
+use Rattle.three_address.specs.Flattening.{AllFlattened, Flattened, all_flattened, with_line, as_modulus, first_modulus, flattened, folded, folded_later, is_modulus, op_modulus, ops_modulus}
 
 -- more statements, none of them a flank
 pub record Grown (before after : List Line) : Type 0 where
@@ -84,7 +84,7 @@ module _ (fields : ℕ) (values : List Operand) where
     folds_grow a no_ops = grown_none a.lines
     folds_grow a (op o p os) =
         let b = flattened fields values a.lines 0 p in
-        let next = ended fields b.lines (line.Bin o a.operand b.operand) in
+        let next = with_line fields b.lines (line.Bin o a.operand b.operand) in
         grown_more a.lines next.lines (folded fields values next os).lines (grown_by a.lines b.lines (line.Bin o a.operand b.operand) refl (grows a.lines 0 p)) (folds_grow next os)
 
     later_grow : (a : Flattened) (os : OpForms) → Grown a.lines (folded_later fields values a os).lines
@@ -185,8 +185,8 @@ module _ (fields arrays : ℕ) where
     pub lines : Ordered f.lines
     pub operands : are_known (values_of fields f.lines) f.operands ≡ true
 
-  pub place_ended : (lines : List Line) (l : Line) → Ordered lines → are_known (values_of fields lines) (operands_of l) ≡ true → has_array arrays l ≡ true → has_its_args l ≡ true → has_small_modulus l ≡ true → makes l ≡ true → Placed (ended fields lines l)
-  place_ended lines l p k a e small m =
+  pub place_line : (lines : List Line) (l : Line) → Ordered lines → are_known (values_of fields lines) (operands_of l) ≡ true → has_array arrays l ≡ true → has_its_args l ≡ true → has_small_modulus l ≡ true → makes l ≡ true → Placed (with_line fields lines l)
+  place_line lines l p k a e small m =
       record {
         lines = record { order = after_push (entered fields) lines l p.order k; ranges = within_push arrays lines l p.ranges a e; moduli = moduli_push lines l p.moduli small };
         operand = made_known fields lines l m;
@@ -221,11 +221,11 @@ module _ (fields arrays : ℕ) where
           let args = all_flattened fields values lines ps in
           let placed = all_place lines ps t s q.1 in
           let count : length args.operands ≡ unit.args = args_count lines ps ∙ eqb-true (count_of ps) unit.args q.0 in
-          place_ended args.lines (line.Hash unit modulus args.operands) placed.lines placed.operands refl (eq-eqb (length args.operands) unit.args count) small refl
+          place_line args.lines (line.Hash unit modulus args.operands) placed.lines placed.operands refl (eq-eqb (length args.operands) unit.args count) small refl
       places lines modulus (un o p) small t s h =
           let a = flattened fields values lines 0 p in
           let placed = places lines 0 p refl t s h in
-          place_ended a.lines (line.Un o a.operand) placed.lines (and_from (is_known (values_of fields a.lines) a.operand) true placed.operand refl) refl refl refl refl
+          place_line a.lines (line.Un o a.operand) placed.lines (and_from (is_known (values_of fields a.lines) a.operand) true placed.operand refl) refl refl refl refl
       places lines modulus (chain p os) small t s h =
           let r = named_ranges fields so_far in
           let q = and_parts (part_within r p) (ops_within r os) h in
@@ -250,7 +250,7 @@ module _ (fields arrays : ℕ) where
           let z = places a.lines 0 q refl there' y.lines w.1 in
           let x' = known_grown fields test.lines b.lines test.operand (grown_more test.lines a.lines b.lines ga gb) x.operand in
           let y' = known_grown fields a.lines b.lines a.operand gb y.operand in
-          place_ended b.lines (line.Cond test.operand a.operand b.operand) z.lines
+          place_line b.lines (line.Cond test.operand a.operand b.operand) z.lines
           (and_from (is_known (values_of fields b.lines) test.operand) _ x' (and_from (is_known (values_of fields b.lines) a.operand) _ y' (and_from (is_known (values_of fields b.lines) b.operand) true z.operand refl))) refl refl refl refl
 
       args_count : (lines : List Line) (ps : PartForms) → length (all_flattened fields values lines ps).operands ≡ count_of ps
@@ -280,8 +280,8 @@ module _ (fields arrays : ℕ) where
           let g = grows fields values a.lines 0 p in
           let y = places a.lines 0 p refl t s.lines q.0 in
           let x' = known_grown fields a.lines b.lines a.operand g s.operand in
-          let next = place_ended b.lines l y.lines (and_from (is_known (values_of fields b.lines) a.operand) _ x' (and_from (is_known (values_of fields b.lines) b.operand) true y.operand refl)) refl refl refl refl in
-          folds_place (ended fields b.lines l) os (there_grown a.lines (b.lines ++ l ∷ []) (grown_by a.lines b.lines l refl g) t) next q.1
+          let next = place_line b.lines l y.lines (and_from (is_known (values_of fields b.lines) a.operand) _ x' (and_from (is_known (values_of fields b.lines) b.operand) true y.operand refl)) refl refl refl refl in
+          folds_place (with_line fields b.lines l) os (there_grown a.lines (b.lines ++ l ∷ []) (grown_by a.lines b.lines l refl g) t) next q.1
 
       later_place : (a : Flattened) (os : OpForms) → AreThere a.lines → Placed a → ops_within (named_ranges fields so_far) os ≡ true → Placed (folded_later fields values a os)
       later_place a no_ops t s h = s

@@ -15,7 +15,8 @@ use Rattle.dom_flat.proofs.Order.{AreEarlier}
 use Rattle.dom_flat.proofs.Facts.{all_known_below, are_earlier}
 use Rattle.dom_flat.proofs.Run.{HaveWords, length_run, line_arrays-with, line_word-with, words-with}
 use Rattle.three_address.specs.Needs.{is_kept_flank, is_used, kept, line_renumbered, needed, new_number, renumbered}
-use Rattle.three_address.specs.Statements.{all_of, needed_only}
+use Rattle.three_address.specs.Statements.{needed_only}
+use Rattle.three_address.specs.inner.Numbering.{all_of}
 use Rattle.three_address.proofs.Grown.{length_values}
 use Rattle.three_address.proofs.Kept.{Held, Stands, held_start, kept_none, kept_one, mark, next_dropped, next_kept, stands_next, used, uses_kept}
 

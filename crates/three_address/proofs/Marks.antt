@@ -12,9 +12,14 @@ use Rattle.dom_flat.specs.Kept.{are_after, are_below, entered, has_array, has_it
 use Rattle.dom_flat.specs.Lines.{is_value, operands_of, stores_to, uses}
 use Rattle.dom_flat.proofs.Order.{AreEarlier}
 use Rattle.dom_flat.proofs.Facts.{are_earlier}
-use Rattle.three_address.specs.Marking.{all_marked, is_marked_flank, marked, store_marked, swept, swept_one}
+use Rattle.three_address.specs.inner.Marking.{all_marked, is_marked_flank, marked, store_marked, swept_one}
 use Rattle.three_address.specs.Needs.{is_kept_flank, is_stored, is_used, kept, needed}
 use Rattle.three_address.proofs.Numbers.{below_more}
+
+-- statements from number k on, the last first
+abbrev pub swept : ℕ → List Bool → ℕ → List Line → List Bool → List Bool
+swept fields stored k [] marks = marks
+swept fields stored k (l ∷ lines) marks = swept_one fields stored k l (swept fields stored (suc k) lines marks)
 
 or_none : (b : Bool) → (b || false) ≡ b
 or_none true = refl

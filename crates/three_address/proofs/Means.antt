@@ -28,7 +28,7 @@ use Rattle.dom_flat.specs.Lines.{is_flank}
 use Rattle.dom_flat.proofs.Run.{length_run}
 use Rattle.dom_flat.specs.Meaning.{FlatEnv, flat_entering, flat_outcome, line_arrays, line_step, line_word, operand_word, run_lines}
 use Rattle.dom_flat.proofs.Run.{run_kept}
-use Rattle.three_address.specs.Flattening.{AllFlattened, Flattened, all_flattened, as_modulus, ended, first_modulus, flattened, folded, folded_later, is_modulus, op_modulus}
+use Rattle.three_address.specs.Flattening.{AllFlattened, Flattened, all_flattened, as_modulus, with_line, first_modulus, flattened, folded, folded_later, is_modulus, op_modulus}
 use Rattle.three_address.specs.Statements.{Draft, all_statements, draft, with_item, with_items}
 use Rattle.three_address.proofs.Flanks.{none_made, outputs_within}
 use Rattle.three_address.proofs.Grown.{Grown, all_grow, grown_by, grown_more, grows}
@@ -174,8 +174,8 @@ module _ (hash : Hash) (fields : ℕ) (packet : List ℕ) (start : List (List �
   pub record AllSay (f : AllFlattened) (ws : List ℕ) : Type 0 where
     pub word : map (λ o. operand_word o (words f.lines)) f.operands ≡ ws
 
-  pub says_ended : (lines : List Line) (l : Line) (w : ℕ) → line_word hash l (after lines).arrays (words lines) ≡ w → Says (ended fields lines l) w
-  says_ended lines l w e =
+  pub says_line : (lines : List Line) (l : Line) (w : ℕ) → line_word hash l (after lines).arrays (words lines) ≡ w → Says (with_line fields lines l) w
+  says_line lines l w e =
       let n = length_push lines l in
       let m = length_after lines in
       record {
@@ -265,10 +265,10 @@ module _ (hash : Hash) (fields : ℕ) (packet : List ℕ) (start : List (List �
         says lines modulus (call unit ps) h e =
             let args = all_flattened fields values lines ps in
             let q = and_parts (nat_eq (count_of ps) unit.args) (parts_within (named_ranges fields so_far) ps) e in
-            says_ended args.lines (line.Hash unit modulus args.operands) _ (ap (λ (ws : List ℕ). reduced modulus (hash unit ws)) (all_say lines ps h q.1).word)
+            says_line args.lines (line.Hash unit modulus args.operands) _ (ap (λ (ws : List ℕ). reduced modulus (hash unit ws)) (all_say lines ps h q.1).word)
         says lines modulus (un o p) h e =
             let a = flattened fields values lines 0 p in
-            says_ended a.lines (line.Un o a.operand) _ (ap (un_word o) (untaken (flattened fields values lines 0 p) p 0 refl (says lines 0 p h e)).word)
+            says_line a.lines (line.Un o a.operand) _ (ap (un_word o) (untaken (flattened fields values lines 0 p) p 0 refl (says lines 0 p h e)).word)
         says lines modulus (chain p os) h e =
             let r = named_ranges fields so_far in
             let q = and_parts (part_within r p) (ops_within r os) e in
@@ -295,7 +295,7 @@ module _ (hash : Hash) (fields : ℕ) (packet : List ℕ) (start : List (List �
             let z = untaken (flattened fields values a.lines 0 q) q 0 refl (says a.lines 0 q h2 w.1) in
             let x' = word_grown test.lines b.lines test.operand (grown_more test.lines a.lines b.lines ga gb) x.below ∙ x.word in
             let y' = word_grown a.lines b.lines a.operand gb y.below ∙ y.word in
-            says_ended b.lines (line.Cond test.operand a.operand b.operand) _
+            says_line b.lines (line.Cond test.operand a.operand b.operand) _
             (ap (λ (k : ℕ). chosen k (operand_word a.operand (words b.lines)) (operand_word b.operand (words b.lines))) x'
             ∙ ap (λ (k : ℕ). chosen (value hash names c) k (operand_word b.operand (words b.lines))) y'
             ∙ ap (λ (k : ℕ). chosen (value hash names c) (value hash names p) k) z.word)
@@ -325,8 +325,8 @@ module _ (hash : Hash) (fields : ℕ) (packet : List ℕ) (start : List (List �
             let g = grows fields values a.lines 0 p in
             let y = untaken (flattened fields values a.lines 0 p) p 0 refl (says a.lines 0 p h q.0) in
             let x' = word_grown a.lines b.lines a.operand g s.below ∙ s.word in
-            let next = says_ended b.lines l (bin_word o w (value hash names p)) (ap (λ (k : ℕ). bin_word o k (operand_word b.operand (words b.lines))) x' ∙ ap (bin_word o w) y.word) in
-            folds_say (ended fields b.lines l) (bin_word o w (value hash names p)) os (holds_grown a.lines (b.lines ++ l ∷ []) (grown_by a.lines b.lines l refl g) h) next q.1
+            let next = says_line b.lines l (bin_word o w (value hash names p)) (ap (λ (k : ℕ). bin_word o k (operand_word b.operand (words b.lines))) x' ∙ ap (bin_word o w) y.word) in
+            folds_say (with_line fields b.lines l) (bin_word o w (value hash names p)) os (holds_grown a.lines (b.lines ++ l ∷ []) (grown_by a.lines b.lines l refl g) h) next q.1
 
         later_say : (p : PartForm) (a : Flattened) (os : OpForms) → Holds a.lines → (first_modulus p os == 0) ≡ false → Says a (taken_word (first_modulus p os) p (value hash names p)) → ops_within (named_ranges fields so_far) os ≡ true
             → Says (folded_later fields values a os) (folded_word hash names (value hash names p) os)
@@ -432,7 +432,7 @@ module _ (hash : Hash) (fields : ℕ) (packet : List ℕ) (start : List (List �
         let w = fetched env.arrays a (named_value hash packet env i) in
         let is : line_word hash l (after f.lines).arrays (words f.lines) ≡ w =
         ap (λ (x : List (List ℕ)). fetched x a (operand_word f.operand (words f.lines))) now ∙ ap (fetched env.arrays a) s.word in
-        let t = says_ended f.lines l w is in
+        let t = says_line f.lines l w is in
         let held = flank_holds so_far d.values env.made f.lines l (holds_grown so_far d.values env.made d.lines f.lines g r.holds) in
         record {
           size = push_size so_far true d.values (Value (fields + length f.lines)) r.size;

@@ -9,7 +9,7 @@ use Rattle.dom_flat.specs.declared.line.Line.TheVariants as line
 use Rattle.dom_flat.specs.Kept.{are_below, is_below}
 use Rattle.dom_flat.specs.Lines.{operands_of}
 use Rattle.dom_flat.proofs.Order.{AreEarlier}
-use Rattle.three_address.specs.Marking.{lines_below, number_in, numbers_from}
+use Rattle.three_address.specs.inner.Numbering.{lines_below, number_in, numbers_from}
 use Rattle.three_address.specs.Needs.{count, kept, line_renumbered, needed, new_number, renumbered}
 
 pub length_numbers : (n : ℕ) (marks : List Bool) → length (numbers_from n marks) ≡ length marks

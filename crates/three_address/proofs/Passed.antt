@@ -9,9 +9,9 @@ use Rattle.dom_flat.specs.Kept.{are_after, are_below, are_flanked, are_known, en
 use Rattle.dom_flat.proofs.Order.{AreEarlier}
 use Rattle.dom_flat.proofs.Facts.{all_known_below, are_earlier}
 use Rattle.three_address.specs.Flattening.{AllFlattened}
-use Rattle.three_address.specs.Marking.{lines_below, number_in, numbers_from}
+use Rattle.three_address.specs.inner.Numbering.{all_of, lines_below, number_in, numbers_from}
 use Rattle.three_address.specs.Needs.{count, kept, line_renumbered, needed, new_number, renumbered}
-use Rattle.three_address.specs.Statements.{all_of, all_statements, draft, needed_only, numbered, statements, with_items}
+use Rattle.three_address.specs.Statements.{all_statements, draft, needed_only, numbered, statements, with_items}
 use Rattle.three_address.proofs.Flanks.{Whole, outputs_count, whole}
 use Rattle.three_address.proofs.Grown.{length_values}
 use Rattle.three_address.proofs.Kept.{Left, held_start, kept_moduli, kept_within, left_ordered}

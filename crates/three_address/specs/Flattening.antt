@@ -23,8 +23,8 @@ abbrev pub as_is : List Line → Operand → Flattened
 as_is lines o = record { lines = lines; operand = o }
 
 -- one statement more, whose value is the operand: with so many fields, statement j makes value fields + j
-abbrev pub ended : ℕ → List Line → Line → Flattened
-ended fields lines l = record { lines = lines ++ l ∷ []; operand = Value (fields + length lines) }
+abbrev pub with_line : ℕ → List Line → Line → Flattened
+with_line fields lines l = record { lines = lines ++ l ∷ []; operand = Value (fields + length lines) }
 
 -- a hash unit takes these numbers as its modulus
 abbrev pub is_modulus : ℕ → Bool
@@ -33,14 +33,7 @@ is_modulus m = nat_le 1 m && nat_le m 2147483647
 -- the modulus that an expression is; 0 for all that is none
 abbrev pub as_modulus : PartForm → ℕ
 as_modulus (number m) = if is_modulus m then m else 0
-as_modulus (field f) = 0
-as_modulus (state a i) = 0
-as_modulus (fresh k) = 0
-as_modulus (made k) = 0
-as_modulus (call unit ps) = 0
-as_modulus (un o p) = 0
-as_modulus (chain p os) = 0
-as_modulus (choice c p q) = 0
+as_modulus _ = 0
 
 -- the modulus that an operator with its operand is: `%` with such a number
 abbrev pub op_modulus : BinOp → PartForm → ℕ
@@ -55,14 +48,7 @@ ops_modulus (op o p os) = op_modulus o p
 -- the modulus that the first operand of a chain takes with it: a call takes that of the first operator, where it has one
 abbrev pub first_modulus : PartForm → OpForms → ℕ
 first_modulus (call unit ps) os = ops_modulus os
-first_modulus (number m) os = 0
-first_modulus (field f) os = 0
-first_modulus (state a i) os = 0
-first_modulus (fresh k) os = 0
-first_modulus (made k) os = 0
-first_modulus (un o p) os = 0
-first_modulus (chain p rest) os = 0
-first_modulus (choice c p q) os = 0
+first_modulus _ os = 0
 
 -- An expression after the statements so far, from left to right, operands before the operator. `values` has the operand
 -- that each item's value became. A call is one hash, and takes the modulus; 0 is none. No constants are folded.
@@ -75,10 +61,10 @@ abbrev mutual
   flattened fields values lines modulus (made k) = as_is lines (slice_index_or values k (Const 0))
   flattened fields values lines modulus (call unit ps) =
       let args = all_flattened fields values lines ps in
-      ended fields args.lines (line.Hash unit modulus args.operands)
+      with_line fields args.lines (line.Hash unit modulus args.operands)
   flattened fields values lines modulus (un o p) =
       let a = flattened fields values lines 0 p in
-      ended fields a.lines (line.Un o a.operand)
+      with_line fields a.lines (line.Un o a.operand)
   flattened fields values lines modulus (chain p os) =
       let first = flattened fields values lines (first_modulus p os) p in
       if first_modulus p os == 0 then folded fields values first os else folded_later fields values first os
@@ -86,7 +72,7 @@ abbrev mutual
       let test = flattened fields values lines 0 c in
       let a = flattened fields values test.lines 0 p in
       let b = flattened fields values a.lines 0 q in
-      ended fields b.lines (line.Cond test.operand a.operand b.operand)
+      with_line fields b.lines (line.Cond test.operand a.operand b.operand)
 
   -- one expression after another
   pub all_flattened : ℕ → List Operand → List Line → PartForms → AllFlattened
@@ -101,13 +87,9 @@ abbrev mutual
   folded fields values a no_ops = a
   folded fields values a (op o p os) =
       let b = flattened fields values a.lines 0 p in
-      folded fields values (ended fields b.lines (line.Bin o a.operand b.operand)) os
+      folded fields values (with_line fields b.lines (line.Bin o a.operand b.operand)) os
 
   -- all operators but the first, which a hash has taken
   pub folded_later : ℕ → List Operand → Flattened → OpForms → Flattened
   folded_later fields values a no_ops = a
   folded_later fields values a (op o p os) = folded fields values a os
-
--- how many operators a hash with this modulus takes
-abbrev pub taken_by : ℕ → ℕ
-taken_by modulus = if modulus == 0 then 0 else 1

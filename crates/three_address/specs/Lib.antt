@@ -1,4 +1,4 @@
 pub mod Flattening
-pub mod Marking
 pub mod Needs
 pub mod Statements
+pub mod inner

@@ -15,10 +15,7 @@ is_stored lines a = list_any (stores_to a) lines
 abbrev pub is_kept_flank : List Line → Line → Bool
 is_kept_flank all (line.Fetch a i) = is_stored all a
 is_kept_flank all (line.Store a i v) = true
-is_kept_flank all (line.Un o a) = false
-is_kept_flank all (line.Bin o a b) = false
-is_kept_flank all (line.Cond c a b) = false
-is_kept_flank all (line.Hash unit modulus args) = false
+is_kept_flank all _ = false
 
 -- the statements with these marks
 abbrev pub kept : List Bool → List Line → List Line

@@ -7,7 +7,7 @@ use Rattle.dom_flat.specs.declared.line.Line.{Line}
 use Rattle.dom_flat.specs.declared.line.Line.TheVariants as line
 use Rattle.three_address.specs.declared.fault.FlatFault.{FlatFault}
 use Rattle.three_address.specs.declared.fault.FlatFault.TheVariants as fault
-use Rattle.three_address.specs.Flattening.{AllFlattened, Flattened, all_flattened, ended, flattened}
+use Rattle.three_address.specs.Flattening.{AllFlattened, Flattened, all_flattened, with_line, flattened}
 use Rattle.three_address.specs.Needs.{kept, line_renumbered, needed, new_number, renumbered}
 
 -- the statements so far, and the operand that each item's value became
@@ -19,12 +19,12 @@ pub record Draft : Type 0 where
 abbrev pub item_flattened : ℕ → List Operand → List Line → NamedForm → Flattened
 item_flattened fields values lines (read a i) =
     let index = flattened fields values lines 0 i in
-    ended fields index.lines (line.Fetch a index.operand)
+    with_line fields index.lines (line.Fetch a index.operand)
 item_flattened fields values lines (make p) = flattened fields values lines 0 p
 item_flattened fields values lines (write a i p) =
     let index = flattened fields values lines 0 i in
     let value = flattened fields values index.lines 0 p in
-    ended fields value.lines (line.Store a index.operand value.operand)
+    with_line fields value.lines (line.Store a index.operand value.operand)
 
 abbrev pub draft : List Line → List Operand → Draft
 draft lines values = record { lines = lines; values = values }
@@ -44,9 +44,6 @@ abbrev pub all_statements : ℕ → List NamedForm → List PartForm → AllFlat
 all_statements fields items outputs =
     let d = with_items fields (draft [] []) items in
     all_flattened fields d.values d.lines (parts_of outputs)
-
-abbrev pub all_of : List Line → List Operand → AllFlattened
-all_of lines operands = record { lines = lines; operands = operands }
 
 -- which of them are needed
 abbrev pub marks_of : ℕ → AllFlattened → List Bool

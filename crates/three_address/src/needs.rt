@@ -3,7 +3,7 @@
 ghost use Rattle.std.specs.Prelude.{◌≡◌, ◌+◌, ◌<◌, ◌^◌, true, false, IfOk, fold, length, replicate};
 ghost use Rattle.dom_flat.specs.Kept.{are_after, are_below, entered, has_array, is_below, lines_within};
 ghost use Rattle.dom_flat.specs.Lines.{operands_of};
-ghost use Rattle.three_address.specs.Marking.{all_marked, is_marked_flank as is_flank_with_mark, marked, store_marked, swept_one};
+ghost use Rattle.three_address.specs.inner.Marking.{all_marked, is_marked_flank as is_flank_with_mark, marked, store_marked, swept_one};
 ghost use Rattle.three_address.specs.Needs.{count as marks_in, needed as needed_of};
 
 use dom_flat::{Line, Operand};

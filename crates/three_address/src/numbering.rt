@@ -3,9 +3,9 @@
 ghost use Rattle.std.specs.Prelude.{◌≡◌, ◌+◌, ◌<◌, ◌^◌, true, IfOk, length, map};
 ghost use Rattle.dom_flat.specs.Kept.{are_below, has_word, have_words, is_below, lines_have_words};
 ghost use Rattle.dom_flat.specs.Lines.{operands_of};
-ghost use Rattle.three_address.specs.Marking.{lines_below, number_in, numbers_from};
+ghost use Rattle.three_address.specs.inner.Numbering.{all_of, lines_below, number_in, numbers_from};
 ghost use Rattle.three_address.specs.Needs.{kept, line_renumbered, renumbered as operand_renumbered};
-ghost use Rattle.three_address.specs.Statements.{all_of, numbered as numbered_form};
+ghost use Rattle.three_address.specs.Statements.{numbered as numbered_form};
 
 use dom_flat::{Line, LineList, Operand, Operands};
 use dom_words::{Memory, Seq};

@@ -4,7 +4,8 @@ ghost use Rattle.dom_ast.specs.Named.{are_in_order, are_named, are_outputs, make
 ghost use Rattle.dom_ast.specs.Resolved.{form};
 ghost use Rattle.dom_flat.specs.Kept.{are_after, are_below, entered, have_words, lines_have_words, lines_within};
 ghost use Rattle.dom_flat.specs.Meaning.{flat_outcome};
-ghost use Rattle.three_address.specs.Statements.{IsRefused, all_of, needed_only, statements};
+ghost use Rattle.three_address.specs.Statements.{IsRefused, needed_only, statements};
+ghost use Rattle.three_address.specs.inner.Numbering.{all_of};
 
 use crate::fault::FlatFault;
 use crate::items::all_statements;
@@ -84,7 +85,7 @@ pub fn flatten(alloc: Global, steps: Named) -> Result<Flat, FlatFault>
     ensures fields { IfOk result (λ f. f.fields ≡ steps.fields) }
     ensures arrays { IfOk result (λ f. f.arrays ≡ steps.arrays) }
     ensures few { IfOk result (λ f. length f.lines ≤ 512) }
-    ensures means { IfOk result (λ f. AgreeUnder (λ hash packet state. IsSmallHash hash × (length packet ≡ length steps.fields)) (λ hash packet state. flat_outcome hash f.lines f.outputs packet state) (λ hash packet state. named_outcome hash (map named_form steps.items) (map form steps.outputs) packet state)) }
+    ensures means { IfOk result (λ f. AgreeUnder (λ hash packet state. IsSmallHash hash × (length packet ≡ length steps.fields)) (λ hash. flat_outcome hash f.lines f.outputs) (λ hash. named_outcome hash (map named_form steps.items) (map form steps.outputs))) }
     ensures refused { IfErr result (λ fault. IsRefused fault (length (statements (length steps.fields) (map named_form steps.items) (map form steps.outputs)).lines)) }
 {
     let Named {

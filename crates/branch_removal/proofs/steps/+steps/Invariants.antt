@@ -1,7 +1,8 @@
 use Rattle.std.proofs.Common.{◌≡◌, ◌+◌, map, ◌++◌, drop}
 use Rattle.dom_ast.specs.Resolved.{act_forms}
 use Rattle.dom_ast.specs.Straight.{step_form}
-use Rattle.branch_removal.specs.Branches.{acts_ifs, acts_steps, within}
+use Rattle.branch_removal.specs.Branches.{acts_ifs, acts_steps}
+use Rattle.branch_removal.specs.inner.Within.{within}
 use Rattle.branch_removal.proofs.steps.+steps.Given as goal
 
 abbrev pub invariant-put_acts-loop-act : goal.invariant-put_acts-loop-act

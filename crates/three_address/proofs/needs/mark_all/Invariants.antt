@@ -1,5 +1,5 @@
 use Rattle.std.proofs.Common.{◌≡◌, length, take}
-use Rattle.three_address.specs.Marking.{all_marked}
+use Rattle.three_address.specs.inner.Marking.{all_marked}
 use Rattle.three_address.proofs.needs.mark_all.Given as goal
 
 abbrev pub invariant-loop-operand : goal.invariant-loop-operand

@@ -1,6 +1,7 @@
 use Rattle.std.proofs.Common.{◌≡◌, ◌≤◌, false, drop, length}
 use Rattle.std.specs.Prelude.{replicate}
-use Rattle.three_address.specs.Marking.{all_marked, swept}
+use Rattle.three_address.specs.inner.Marking.{all_marked}
+use Rattle.three_address.proofs.Marks.{swept}
 use Rattle.three_address.proofs.needs.needed.Given as goal
 
 abbrev pub invariant-loop-k : goal.invariant-loop-k

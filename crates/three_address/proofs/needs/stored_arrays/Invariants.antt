@@ -1,6 +1,6 @@
 use Rattle.std.proofs.Common.{◌≡◌, false, length, take}
 use Rattle.std.specs.Prelude.{fold, replicate}
-use Rattle.three_address.specs.Marking.{store_marked}
+use Rattle.three_address.specs.inner.Marking.{store_marked}
 use Rattle.three_address.proofs.needs.stored_arrays.Given as goal
 
 abbrev pub invariant-loop-line : goal.invariant-loop-line

@@ -1,6 +1,6 @@
 use Rattle.std.proofs.Common.{◌≡◌, map, take, true}
 use Rattle.dom_flat.specs.Kept.{have_words}
-use Rattle.three_address.specs.Marking.{number_in}
+use Rattle.three_address.specs.inner.Numbering.{number_in}
 use Rattle.three_address.specs.Needs.{renumbered}
 use Rattle.three_address.proofs.numbering.all_renumbered.Given as goal
 

@@ -1,6 +1,6 @@
 use Rattle.std.proofs.Common.{◌≡◌, ◌++◌, drop, map, true}
 use Rattle.dom_flat.specs.Kept.{lines_have_words}
-use Rattle.three_address.specs.Marking.{number_in}
+use Rattle.three_address.specs.inner.Numbering.{number_in}
 use Rattle.three_address.specs.Needs.{kept, line_renumbered}
 use Rattle.three_address.proofs.numbering.kept_lines.Given as goal
 

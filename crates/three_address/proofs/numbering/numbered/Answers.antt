@@ -1,6 +1,6 @@
 use Rattle.std.proofs.Common.{◌≡◌, ℕ, ◌+◌, true, sym, ◌∙◌, subst}
 use Rattle.dom_flat.specs.Kept.{are_below}
-use Rattle.three_address.specs.Marking.{lines_below}
+use Rattle.three_address.specs.inner.Numbering.{lines_below}
 use Rattle.three_address.proofs.Passed.{lines_numbered, numbers_length, outputs_numbered}
 use Rattle.three_address.proofs.numbering.numbered.Goals as goal
 

@@ -1,5 +1,5 @@
 use Rattle.std.proofs.Common.{◌≡◌, ◌+◌, ◌≤◌, ◌++◌, drop}
-use Rattle.three_address.specs.Marking.{numbers_from}
+use Rattle.three_address.specs.inner.Numbering.{numbers_from}
 use Rattle.three_address.proofs.numbering.numbers.Given as goal
 
 abbrev pub invariant-loop-mark : goal.invariant-loop-mark
