@@ -1,3 +1,4 @@
+pub mod Becoming
 pub mod Chains
 pub mod Flanks
 pub mod Grown

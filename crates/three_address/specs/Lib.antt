@@ -1,3 +1,4 @@
+pub mod Becomes
 pub mod Flattening
 pub mod Needs
 pub mod Statements

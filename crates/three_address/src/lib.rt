@@ -5,6 +5,7 @@
 mod expressions;
 mod fault;
 mod items;
+pub mod laws;
 mod needs;
 mod numbering;
 mod pass;
