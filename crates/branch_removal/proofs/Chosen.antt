@@ -4,14 +4,13 @@ use Rattle.std.specs.Prelude.{fold, Option, Some, None}
 use Rattle.std.specs.List.{filter}
 use Rattle.std.proofs.lemmas.Bool.{eq-eqb}
 use Rattle.dom_words.specs.Operators.{is_true}
-use Rattle.dom_words.specs.State.{Hash, Outcome}
-use Rattle.dom_ast.specs.declared.part.Goal.TheVariants as goal
-use Rattle.dom_ast.specs.Kept.{acts_visits, are_within, bodies_visits, condition, guard_visits, part_within, resolved_ranges, visit_within}
-use Rattle.dom_ast.specs.Meaning.{Env, all_acted, all_chosen, entering, is_chosen, one, outcome_of, value_in}
+use Rattle.dom_words.specs.State.{Hash}
+use Rattle.dom_ast.specs.Kept.{acts_visits, are_within, bodies_visits, guard_visits, part_within, resolved_ranges, visit_within}
+use Rattle.dom_ast.specs.Meaning.{Env, all_acted, entering, is_chosen, one, outcome_of, value_in}
 use Rattle.dom_ast.specs.Resolved.{PartForm, ActForms, BodyForm}
-use Rattle.dom_ast.specs.Straight.{StepForm, all_stepped, stepped, straight_outcome}
+use Rattle.dom_ast.specs.Straight.{StepForm, all_stepped, straight_outcome}
 use Rattle.branch_removal.specs.declared.branch.Branch.TheVariants.{Then}
-use Rattle.branch_removal.specs.Branches.{acts_ifs, acts_steps, bodies_steps, chosen_steps, guard_count, guard_step, guard_steps, guarded, guards, step, straight}
+use Rattle.branch_removal.specs.Branches.{acts_ifs, acts_steps, bodies_steps, chosen_steps, guard_count, guard_step, guard_steps, guarded, guards, straight}
 use Rattle.branch_removal.proofs.Tests.{both, both_parts}
 use Rattle.branch_removal.proofs.Targets.{AreFrom, acts_from, are_from_sooner, guarded_from, guards_from}
 use Rattle.branch_removal.proofs.Sound.{Same, acts_mean, left, run-append, same_refl, same_trans, stays, taken, value_same}

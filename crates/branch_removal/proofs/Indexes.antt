@@ -1,6 +1,6 @@
 -- The steps mention what the walk through the program mentions, and change no index that it does not change.
-use Rattle.std.proofs.Common.{◌≡◌, ℕ, ◌+◌, Bool, true, false, not, ◌&&◌, List, [], ◌∷◌, ◌++◌, map, refl, sym, ap, append_assoc, ◌∙◌, subst}
-use Rattle.std.specs.Prelude.{Option, Some, None, flat_map}
+use Rattle.std.proofs.Common.{◌≡◌, ℕ, ◌+◌, Bool, true, not, List, [], ◌∷◌, ◌++◌, map, refl, sym, ap, append_assoc, ◌∙◌, subst}
+use Rattle.std.specs.Prelude.{Option, Some, None}
 use Rattle.std.specs.List.{list_all}
 use Rattle.std.proofs.lemmas.Bool.{false≢true}
 use Rattle.std.proofs.lemmas.Grind.{flat_map-append}
@@ -9,12 +9,12 @@ use Rattle.std.proofs.lemmas.List.Folds.{list_all-append}
 use Rattle.dom_ast.specs.declared.part.Goal.{Goal}
 use Rattle.dom_ast.specs.declared.part.Goal.TheVariants as goal
 use Rattle.dom_ast.specs.declared.part.Place.TheVariants as place
-use Rattle.dom_ast.specs.Kept.{Mention, Visit, act_visits, acts_visits, agree, are_guards_free, assignment, bodies_visits, changes_none, condition, goal_mentions, guard_visits, have_one_index, is_empty, is_guard_free, is_no_index, is_place, keep_indexes, mention, mentions_in, part_mentions, target_mentions, visit_mentions}
+use Rattle.dom_ast.specs.Kept.{Mention, Visit, act_visits, acts_visits, agree, are_guards_free, bodies_visits, changes_none, condition, guard_visits, have_one_index, is_empty, is_guard_free, is_place, keep_indexes, mention, mentions_in, part_mentions, visit_mentions}
 use Rattle.dom_ast.specs.Resolved.{PartForm, ActForm, assign, branch, ActForms, no_acts, act, BodyForm}
 use Rattle.dom_ast.specs.Straight.{StepForm, step_visit}
 use Rattle.branch_removal.specs.declared.branch.Branch.{Branch}
 use Rattle.branch_removal.specs.declared.branch.Branch.TheVariants.{Then, Else}
-use Rattle.branch_removal.specs.Branches.{act_ifs, act_steps, acts_ifs, acts_steps, bodies_steps, chosen_steps, guard_count, guard_step, guard_steps, guarded, guarded_at, guards, ifs, step, straight}
+use Rattle.branch_removal.specs.Branches.{act_ifs, act_steps, acts_ifs, acts_steps, bodies_steps, chosen_steps, guard_count, guard_step, guard_steps, guarded, guarded_at, guards, step, straight}
 use Rattle.branch_removal.proofs.Tests.{both, both_parts, join}
 
 -- each of the second mentions is one of the first: what holds of all the first holds of all the second

@@ -1,8 +1,7 @@
 -- Steps of branches that stand in branches.
 use Rattle.std.proofs.Common.{◌≡◌, ℕ, ◌+◌, List, [], ◌∷◌, ◌++◌, map, refl, sym, ap, append_assoc, ◌∙◌}
 use Rattle.std.specs.Prelude.{fold, reverse}
-use Rattle.std.proofs.lemmas.List.{append-nil, map-append, reverse-append}
-use Rattle.dom_ast.specs.declared.part.Goal.{Goal}
+use Rattle.std.proofs.lemmas.List.{map-append, reverse-append}
 use Rattle.dom_ast.specs.declared.part.Goal.TheVariants as goal
 use Rattle.dom_ast.specs.declared.part.Part.{Part}
 use Rattle.dom_ast.specs.declared.checked.Act.{Act}

@@ -1,13 +1,11 @@
 -- The numbers in the steps are in range.
-use Rattle.std.proofs.Common.{◌≡◌, ℕ, ◌+◌, ◌≤◌, ◌<◌, Bool, true, false, ◌&&◌, nat_lt, List, [], ◌∷◌, ◌++◌, map, refl, sym, ap, ◌∙◌, subst, arith}
+use Rattle.std.proofs.Common.{◌≡◌, ℕ, ◌+◌, ◌≤◌, ◌<◌, true, ◌&&◌, List, [], ◌∷◌, ◌++◌, map, refl, arith}
 use Rattle.std.specs.Prelude.{Option, Some, None, nat_eq}
 use Rattle.std.proofs.lemmas.Bool.{lt-ltb}
-use Rattle.dom_words.specs.declared.hash.HashName.{HashName}
 use Rattle.dom_ast.specs.declared.part.Goal.{Goal}
 use Rattle.dom_ast.specs.declared.part.Goal.TheVariants as goal
-use Rattle.dom_ast.specs.declared.part.Place.{Place}
 use Rattle.dom_ast.specs.declared.part.Place.TheVariants as place
-use Rattle.dom_ast.specs.Kept.{act_visits, acts_visits, are_within, bodies_visits, condition, count_of, goal_within, guard_visits, ops_within, part_within, parts_within, place_within, resolved_ranges, visit_within}
+use Rattle.dom_ast.specs.Kept.{act_visits, acts_visits, are_within, bodies_visits, count_of, goal_within, guard_visits, ops_within, part_within, parts_within, resolved_ranges, visit_within}
 use Rattle.dom_ast.specs.Resolved.{PartForm, number, field, state, fresh, made, call, un, chain, choice, PartForms, no_parts, part, OpForms, no_ops, op, ActForm, assign, branch, ActForms, no_acts, act, BodyForm}
 use Rattle.dom_ast.specs.Straight.{StepForm, step_visit, straight_ranges}
 use Rattle.branch_removal.specs.declared.branch.Branch.{Branch}

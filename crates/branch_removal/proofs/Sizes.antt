@@ -1,12 +1,11 @@
 -- How long the list of steps is, and how many fresh names there are.
-use Rattle.std.proofs.Common.{◌≡◌, ℕ, zero, suc, ◌+◌, ◌*◌, ◌≤◌, ◌<◌, ◌^◌, Bool, true, false, ◌&&◌, List, [], ◌∷◌, ◌++◌, map, length, refl, sym, ap, ◌∙◌, arith, length-append}
-use Rattle.std.specs.Prelude.{Option, Some, None, sum}
-use Rattle.std.specs.List.{list_all}
+use Rattle.std.proofs.Common.{◌≡◌, ℕ, zero, suc, ◌+◌, ◌*◌, ◌≤◌, ◌<◌, ◌^◌, true, List, [], ◌∷◌, ◌++◌, map, length, refl, ap, arith, length-append}
+use Rattle.std.specs.Prelude.{Option, Some, None}
 use Rattle.std.proofs.lemmas.Bool.{false≢true}
 use Rattle.std.proofs.lemmas.List.Sums.{sum_by-cons}
 use Rattle.dom_ast.specs.declared.part.Goal.{Goal}
 use Rattle.dom_ast.specs.declared.part.Goal.TheVariants as goal
-use Rattle.dom_ast.specs.PartSize.{act_nested, act_nodes, acts_nested, acts_nodes, bodies_nested, bodies_nodes, body_nodes, guard_nodes, guarded_nested, ops_nodes, part_nodes, parts_nodes}
+use Rattle.dom_ast.specs.PartSize.{act_nested, act_nodes, acts_nested, acts_nodes, bodies_nested, bodies_nodes, body_nodes, guard_nodes, guarded_nested, part_nodes}
 use Rattle.dom_ast.specs.Resolved.{PartForm, number, field, state, fresh, made, call, un, chain, choice, ActForm, assign, branch, ActForms, no_acts, act, BodyForm}
 use Rattle.dom_ast.specs.Straight.{StepForm, steps_nodes}
 use Rattle.branch_removal.specs.declared.branch.Branch.{Branch}

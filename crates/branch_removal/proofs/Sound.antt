@@ -1,6 +1,6 @@
 -- The steps of statements do what the statements do.
-use Rattle.std.proofs.Common.{◌≡◌, ℕ, ◌+◌, ◌≤◌, Bool, true, false, not, ◌&&◌, List, [], ◌∷◌, ◌++◌, map, refl, sym, ap, ◌∙◌, subst, arith, if◌then◌else◌}
-use Rattle.std.specs.Prelude.{fold, slice_index, slice_set}
+use Rattle.std.proofs.Common.{◌≡◌, ℕ, ◌+◌, Bool, true, false, not, ◌&&◌, List, [], ◌∷◌, ◌++◌, map, refl, sym, ap, ◌∙◌, subst, arith, if◌then◌else◌}
+use Rattle.std.specs.Prelude.{slice_set}
 use Rattle.std.proofs.lemmas.Bool.{ne_eqb, eq-eqb}
 use Rattle.std.proofs.lemmas.List.{set-get_or}
 use Rattle.std.proofs.lemmas.List.Sums.{fold-append}
@@ -8,9 +8,8 @@ use Rattle.dom_words.specs.Operators.{bin_word, chosen, is_true, un_word}
 use Rattle.dom_words.specs.State.{Hash, array_of, element_of, fetched, stored}
 use Rattle.dom_ast.specs.declared.part.Goal.{Goal}
 use Rattle.dom_ast.specs.declared.part.Goal.TheVariants as goal
-use Rattle.dom_ast.specs.declared.part.Place.{Place}
-use Rattle.dom_ast.specs.Kept.{act_visits, acts_visits, are_within, condition, goal_within, ops_within, part_within, parts_within, resolved_ranges, visit_within, place_within, count_of}
-use Rattle.dom_ast.specs.Meaning.{Env, acted, all_acted, assigned, folded, names_in, place_word, value, value_in, values}
+use Rattle.dom_ast.specs.Kept.{act_visits, acts_visits, are_within, goal_within, ops_within, part_within, parts_within, resolved_ranges, visit_within}
+use Rattle.dom_ast.specs.Meaning.{Env, acted, all_acted, assigned, folded, names_in, place_word, value_in, values}
 use Rattle.dom_ast.specs.Resolved.{PartForm, number, field, state, fresh, made, call, un, chain, choice, PartForms, no_parts, part, OpForms, no_ops, op, ActForm, assign, branch, ActForms, no_acts, act}
 use Rattle.dom_ast.specs.Straight.{StepForm, all_stepped, stepped}
 use Rattle.branch_removal.specs.declared.branch.Branch.{Branch}

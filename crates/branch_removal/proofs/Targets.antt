@@ -8,7 +8,7 @@ use Rattle.dom_ast.specs.Resolved.{PartForm, ActForm, assign, branch, ActForms, 
 use Rattle.dom_ast.specs.Straight.{StepForm}
 use Rattle.branch_removal.specs.declared.branch.Branch.{Branch}
 use Rattle.branch_removal.specs.declared.branch.Branch.TheVariants.{Then, Else}
-use Rattle.branch_removal.specs.Branches.{act_ifs, act_steps, acts_ifs, acts_steps, guard_count, guard_step, guard_steps, guarded, guarded_at, step}
+use Rattle.branch_removal.specs.Branches.{act_ifs, act_steps, acts_ifs, acts_steps, guard_count, guard_step, guard_steps, guarded, guarded_at}
 use Rattle.branch_removal.proofs.Tests.{both, both_parts, none_below}
 
 -- a fresh name that is given a word has a number from n on

@@ -2,14 +2,11 @@
 use Rattle.std.proofs.Common.{◌≡◌, ℕ, ◌+◌, ◌≤◌, ◌<◌, ◌^◌, true, List, [], map, length, sym, ap, ◌∙◌, subst, arith}
 use Rattle.dom_words.specs.State.{Hash}
 use Rattle.dom_words.specs.declared.array.Array.{Array}
-use Rattle.dom_ast.specs.declared.checked.Act.{Act}
-use Rattle.dom_ast.specs.declared.part.Part.{Part}
-use Rattle.dom_ast.specs.declared.steps.Step.{Step}
 use Rattle.dom_ast.specs.Kept.{are_guards_free, are_within, bodies_visits, have_one_index, keep_indexes, mentions_in, resolved_ranges}
 use Rattle.dom_ast.specs.Meaning.{one}
 use Rattle.dom_ast.specs.PartSize.{bodies_nested, bodies_nodes}
-use Rattle.dom_ast.specs.Resolved.{BodyForm, bodies_form}
-use Rattle.dom_ast.specs.Straight.{StepForm, step_form, step_visit, steps_nodes, straight_outcome, straight_ranges}
+use Rattle.dom_ast.specs.Resolved.{BodyForm}
+use Rattle.dom_ast.specs.Straight.{StepForm, step_visit, steps_nodes, straight_outcome, straight_ranges}
 use Rattle.branch_removal.specs.Branches.{given_names, guards, ifs, numbers, straight}
 use Rattle.branch_removal.proofs.Chosen.{means_one}
 use Rattle.branch_removal.proofs.Indexes.{straight_keeps, straight_one_index}

@@ -73,9 +73,11 @@ module _ (fields : ℕ) (values : List Operand) where
         let y = found test.lines 0 p in
         let z = found a.lines 0 q in
         let some = two before x.0 test.lines y.0 a.lines x.1 y.1 in
-        let all = two before (x.0 ++ y.0) a.lines z.0 b.lines some z.1 in
-        (((x.0 ++ y.0) ++ z.0) ++ l ∷ [], one_more before ((x.0 ++ y.0) ++ z.0) b.lines l all,
-        (x.0, y.0, z.0, test.operand, a.operand, b.operand, x.2, behind before x.0 test.lines (fused 0 p) y.0 a.operand x.1 y.2, behind before (x.0 ++ y.0) a.lines (fused 0 q) z.0 b.operand some z.2, refl, value_is before ((x.0 ++ y.0) ++ z.0) b.lines all))
+        let all = two before (x.0 ++ y.0) a.lines z.0 b.lines some z.1 in (
+          ((x.0 ++ y.0) ++ z.0) ++ l ∷ [],
+          one_more before ((x.0 ++ y.0) ++ z.0) b.lines l all,
+          (x.0, y.0, z.0, test.operand, a.operand, b.operand, x.2, behind before x.0 test.lines (fused 0 p) y.0 a.operand x.1 y.2, behind before (x.0 ++ y.0) a.lines (fused 0 q) z.0 b.operand some z.2, refl, value_is before ((x.0 ++ y.0) ++ z.0) b.lines all),
+        )
 
     pub all_found : (before : List Line) (ps : PartForms) → AllFound before (all_flattened fields values before ps) (all_fused ps)
     all_found before no_parts = ([], sym (append-nil before), (refl, refl))
@@ -83,9 +85,11 @@ module _ (fields : ℕ) (values : List Operand) where
         let first = flattened fields values before 0 p in
         let rest = all_flattened fields values first.lines ps in
         let x = found before 0 p in
-        let y = all_found first.lines ps in
-        (x.0 ++ y.0, two before x.0 first.lines y.0 rest.lines x.1 y.1,
-        (x.0, y.0, first.operand, rest.operands, x.2, subst (λ (n : ℕ). AllBecome values n (all_fused ps) y.0 rest.operands) (place before x.0 first.lines x.1) y.2, refl, refl))
+        let y = all_found first.lines ps in (
+          x.0 ++ y.0,
+          two before x.0 first.lines y.0 rest.lines x.1 y.1,
+          (x.0, y.0, first.operand, rest.operands, x.2, subst (λ (n : ℕ). AllBecome values n (all_fused ps) y.0 rest.operands) (place before x.0 first.lines x.1) y.2, refl, refl),
+        )
 
     folds_found : (before : List Line) (a : Flattened) (e : Fused) (os : OpForms) → Found before a e → Found before (folded fields values a os) (grouped e os)
     folds_found before a e no_ops x = x
@@ -94,9 +98,11 @@ module _ (fields : ℕ) (values : List Operand) where
         let l = line.Bin o a.operand b.operand in
         let y = found a.lines 0 p in
         let both = two before x.0 a.lines y.0 b.lines x.1 y.1 in
-        folds_found before (with_line fields b.lines l) (binary o e (fused 0 p)) os
-        ((x.0 ++ y.0) ++ l ∷ [], one_more before (x.0 ++ y.0) b.lines l both,
-        (x.0, y.0, a.operand, b.operand, x.2, behind before x.0 a.lines (fused 0 p) y.0 b.operand x.1 y.2, refl, value_is before (x.0 ++ y.0) b.lines both))
+        folds_found before (with_line fields b.lines l) (binary o e (fused 0 p)) os (
+          (x.0 ++ y.0) ++ l ∷ [],
+          one_more before (x.0 ++ y.0) b.lines l both,
+          (x.0, y.0, a.operand, b.operand, x.2, behind before x.0 a.lines (fused 0 p) y.0 b.operand x.1 y.2, refl, value_is before (x.0 ++ y.0) b.lines both),
+        )
 
     later_found : (before : List Line) (a : Flattened) (e : Fused) (os : OpForms) → Found before a e → Found before (folded_later fields values a os) (grouped_later e os)
     later_found before a e no_ops x = x
@@ -118,23 +124,27 @@ module _ (values : List Operand) where
     one n (binary sign e f) lines others o q (first, second, a, b, x, y, is, at) (first', second', a', b', x', y', is', at') =
         let s = one n e first first' a a' x x' in
         let t = one (n + length first) f second second' b b' y (subst (λ (ls : List Line). Becomes values (n + length ls) f second' b') (sym s.0) y') in
-        let parts : first ++ second ≡ first' ++ second' = ap (λ (ls : List Line). ls ++ second) s.0 ∙ ap (λ (ls : List Line). first' ++ ls) t.0 in
-        (is ∙ ap (λ (ls : List Line). ls ++ line.Bin sign a b ∷ []) parts
-        ∙ ap (λ (k : Operand). (first' ++ second') ++ line.Bin sign k b ∷ []) s.1
-        ∙ ap (λ (k : Operand). (first' ++ second') ++ line.Bin sign a' k ∷ []) t.1
-        ∙ sym is', at ∙ ap (λ (ls : List Line). Value (n + length ls)) parts ∙ sym at')
+        let parts : first ++ second ≡ first' ++ second' = ap (λ (ls : List Line). ls ++ second) s.0 ∙ ap (λ (ls : List Line). first' ++ ls) t.0 in (
+          is ∙ ap (λ (ls : List Line). ls ++ line.Bin sign a b ∷ []) parts
+              ∙ ap (λ (k : Operand). (first' ++ second') ++ line.Bin sign k b ∷ []) s.1
+              ∙ ap (λ (k : Operand). (first' ++ second') ++ line.Bin sign a' k ∷ []) t.1
+              ∙ sym is',
+          at ∙ ap (λ (ls : List Line). Value (n + length ls)) parts ∙ sym at',
+        )
     one n (conditional c e f) lines others o q (test, first, second, t, a, b, x, y, z, is, at) (test', first', second', t', a', b', x', y', z', is', at') =
         let s = one n c test test' t t' x x' in
         let u = one (n + length test) e first first' a a' y (subst (λ (ls : List Line). Becomes values (n + length ls) e first' a') (sym s.0) y') in
         let some : test ++ first ≡ test' ++ first' = ap (λ (ls : List Line). ls ++ first) s.0 ∙ ap (λ (ls : List Line). test' ++ ls) u.0 in
         let v = one (n + length (test ++ first)) f second second' b b' z (subst (λ (ls : List Line). Becomes values (n + length ls) f second' b') (sym some) z') in
         let parts : (test ++ first) ++ second ≡ (test' ++ first') ++ second' =
-        ap (λ (ls : List Line). ls ++ second) some ∙ ap (λ (ls : List Line). (test' ++ first') ++ ls) v.0 in
-        (is ∙ ap (λ (ls : List Line). ls ++ line.Cond t a b ∷ []) parts
-        ∙ ap (λ (k : Operand). ((test' ++ first') ++ second') ++ line.Cond k a b ∷ []) s.1
-        ∙ ap (λ (k : Operand). ((test' ++ first') ++ second') ++ line.Cond t' k b ∷ []) u.1
-        ∙ ap (λ (k : Operand). ((test' ++ first') ++ second') ++ line.Cond t' a' k ∷ []) v.1
-        ∙ sym is', at ∙ ap (λ (ls : List Line). Value (n + length ls)) parts ∙ sym at')
+        ap (λ (ls : List Line). ls ++ second) some ∙ ap (λ (ls : List Line). (test' ++ first') ++ ls) v.0 in (
+          is ∙ ap (λ (ls : List Line). ls ++ line.Cond t a b ∷ []) parts
+              ∙ ap (λ (k : Operand). ((test' ++ first') ++ second') ++ line.Cond k a b ∷ []) s.1
+              ∙ ap (λ (k : Operand). ((test' ++ first') ++ second') ++ line.Cond t' k b ∷ []) u.1
+              ∙ ap (λ (k : Operand). ((test' ++ first') ++ second') ++ line.Cond t' a' k ∷ []) v.1
+              ∙ sym is',
+          at ∙ ap (λ (ls : List Line). Value (n + length ls)) parts ∙ sym at',
+        )
 
     pub all_one : (n : ℕ) (es : FusedList) (lines others : List Line) (os qs : List Operand) → AllBecome values n es lines os → AllBecome values n es others qs → (lines ≡ others) × (os ≡ qs)
     all_one n no_more lines others os qs x y = (x.0 ∙ sym y.0, x.1 ∙ sym y.1)
