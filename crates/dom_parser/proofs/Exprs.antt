@@ -18,11 +18,13 @@ use Rattle.dom_parser.specs.declared.kinds.Kind.TheVariants as kind
 use Rattle.dom_parser.specs.declared.kinds.Begin.{Begin}
 use Rattle.dom_parser.specs.declared.kinds.Begin.TheVariants as begin
 use Rattle.dom_parser.specs.declared.kinds.Suffix.TheVariants as suffix
-use Rattle.dom_parser.specs.Tokens.{Mark, rest, stands, offset_at, text_at, is_fixed, is_name, number_of, operator_of, unary_of, ahead, is_number, number_first}
+use Rattle.dom_parser.specs.Tokens.{Mark, stands, offset_at, ahead, is_number, number_first}
+use Rattle.dom_parser.specs.inner.AtPlace.{rest, text_at, is_fixed, is_name, number_of, operator_of, unary_of}
 use Rattle.dom_parser.specs.Grammar.{top, sign, name_mark, number_mark, bin_mark, un_mark, Way, a_number, a_negated, a_word, a_field, an_index, a_call, in_parens, operated, level_of, stop, and_then, if_so, no_args, some_args, last_arg, next_arg, MakesNode, tokens, more_tokens, arg_tokens, more_arg_tokens, Tail, ops, joined, and_op, tree, more_trees, more_arg_trees}
-use Rattle.dom_parser.specs.Following as item
-use Rattle.dom_parser.specs.Following.{Item, term, close, ended, level, more, args, args_row, name_rest, more_args, when, then_row, paren_row, bracket_row, begin_row, operand_row, operator_row, level_row, choice_row, suffix_row, begin_of, suffix_of, is_neg, expand, may_skip, held, limit, Problem, bad, deep, fault_from}
-use Rattle.dom_parser.specs.Reads.{FailsBy, Step, Reads, SpellsExpr, with_ops, OpsSoFar, LevelSoFar, ReadsIn, FailsIn, ReadsArgs, with_args, ArgsSoFar, negated_word, negated_in}
+use Rattle.dom_parser.specs.inner.Following as item
+use Rattle.dom_parser.specs.inner.Following.{Item, term, close, ended, level, more, args, args_row, name_rest, more_args, when, then_row, paren_row, bracket_row, begin_row, operand_row, operator_row, level_row, choice_row, suffix_row, begin_of, suffix_of, is_neg, expand, may_skip, held, limit, Problem, bad, deep, fault_from}
+use Rattle.dom_parser.specs.inner.Reads.{FailsBy, Step, Reads, SpellsExpr, ReadsIn, FailsIn, ReadsArgs, negated_word, negated_in}
+use Rattle.dom_parser.proofs.SoFar.{with_ops, OpsSoFar, LevelSoFar, with_args, ArgsSoFar}
 use Rattle.dom_ast.specs.declared.expr.Expr.TheVariants.{Number, Word, Field, Call}
 use Rattle.dom_ast.specs.declared.expr.Expr.TheViews.{Un, Chain}
 use Rattle.std.specs.Prelude.{Box}

@@ -8,10 +8,11 @@ use Rattle.dom_ast.specs.Form.{ProgramForm}
 use Rattle.dom_parser.specs.declared.kinds.Kind.{Kind}
 use Rattle.dom_parser.specs.declared.kinds.Begin.{Begin}
 use Rattle.dom_parser.specs.declared.kinds.Fixed.TheVariants as fixed
-use Rattle.dom_parser.specs.Tokens.{Mark, mark, is_fixed, unary_of, is_number, number_first}
+use Rattle.dom_parser.specs.Tokens.{Mark, mark, is_number, number_first}
+use Rattle.dom_parser.specs.inner.AtPlace.{is_fixed, unary_of}
 use Rattle.dom_parser.specs.Grammar.{top, program_opens, Spells, IsViable}
-use Rattle.dom_parser.specs.Following as item
-use Rattle.dom_parser.specs.Following.{Item, ended, level, more, args, args_row, then_row, begin_of, begin_row, operand_row, level_row, is_neg, expand, may_skip, resume, step, held, Trace, fine, stuck, count, on_step, trace, limit, Problem, bad, deep, problem, whole}
+use Rattle.dom_parser.specs.inner.Following as item
+use Rattle.dom_parser.specs.inner.Following.{Item, ended, level, more, args, args_row, then_row, begin_of, begin_row, operand_row, level_row, is_neg, expand, may_skip, resume, step, held, Trace, fine, stuck, count, on_step, trace, limit, Problem, bad, deep, problem, whole}
 use Rattle.dom_parser.proofs.Traces.{counted}
 use Rattle.dom_parser.proofs.Whole.{program_traced}
 

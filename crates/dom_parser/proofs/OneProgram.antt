@@ -5,17 +5,17 @@ use Rattle.dom_ast.specs.Form.{ProgramForm}
 use Rattle.dom_parser.specs.declared.kinds.Fixed.{Fixed}
 use Rattle.dom_parser.specs.declared.kinds.Fixed.TheVariants as fixed
 use Rattle.dom_parser.specs.declared.kinds.Kind.TheVariants as kind
-use Rattle.dom_parser.specs.Tokens as Tokens
+use Rattle.dom_parser.specs.inner.AtPlace as AtPlace
 use Rattle.dom_parser.specs.Tokens.{Mark, mark}
 use Rattle.dom_parser.specs.Grammar.{top, sign, name_mark, Way, IsAt, tokens, Goal, goal_word, goal_field, goal_index, IsGoal, goal_tokens, Assign, assigned, IsAssign, assign_tokens, Stmts, no_more, then_stmt, Stmt, an_assign, an_if, Body, body_block, body_assign, Else, no_else, else_block, else_stmt, AreStmts, IsStmt, IsBody, IsElse, stmts_tokens, stmt_tokens, body_tokens, else_tokens, Constant, plain, negative, constant_tokens, Value, a_constant, a_name, value_tokens, Start, no_start, bare, braced, start_tokens, Size, no_size, number_size, name_size, size_tokens, Decl, a_define, a_global, decl_tokens, Decls, no_decls, then_decl, decls_tokens, Fields, no_fields, a_field_of, field_tokens, Structure, a_struct, struct_tokens, Guard, no_guard, a_guard, IsGuard, guard_tokens, Transaction, a_transaction, IsTransaction, transaction_tokens, Transactions, no_others, another, AreTransactions, transactions_tokens, Program, program, IsProgram, program_tokens, program_tree, Spells}
-use Rattle.dom_parser.specs.Following as item
-use Rattle.dom_parser.specs.Following.{Item, level}
+use Rattle.dom_parser.specs.inner.Following as item
+use Rattle.dom_parser.specs.inner.Following.{Item, level}
 use Rattle.dom_parser.proofs.Traces.{Refused}
 use Rattle.dom_parser.proofs.Whole.{starts_ok, struct_first, transaction_first}
 use Rattle.dom_parser.proofs.One.{kind_first, place_first, text_first, others, number_of_kind, one_way, in_both}
 
 -- an expression and the symbol after it
-one_in : (f : Fixed) (w w' : Way) (r r' : ℕ) (l l' : List Mark) → IsAt top w → IsAt top w' → item.suffix_row (item.suffix_fixed f) ≡ None → Tokens.is_fixed fixed.Question (kind.Fixed f) ≡ false → (tokens w ++ sign f r ∷ []) ++ l ≡ (tokens w' ++ sign f r' ∷ []) ++ l' → (w ≡ w') × (r ≡ r') × (l ≡ l')
+one_in : (f : Fixed) (w w' : Way) (r r' : ℕ) (l l' : List Mark) → IsAt top w → IsAt top w' → item.suffix_row (item.suffix_fixed f) ≡ None → AtPlace.is_fixed fixed.Question (kind.Fixed f) ≡ false → (tokens w ++ sign f r ∷ []) ++ l ≡ (tokens w' ++ sign f r' ∷ []) ++ l' → (w ≡ w') × (r ≡ r') × (l ≡ l')
 one_in f w w' r r' l l' h h' a b e = in_both f w w' r r' l l' (λ x y z. one_way top w w' (sign f r ∷ l) (sign f r' ∷ l') h h' x y z) a b e
 
 one_goal : (g g' : Goal) (p p' : ℕ) (l l' : List Mark) → IsGoal g → IsGoal g' → goal_tokens g ++ sign fixed.Assign p ∷ l ≡ goal_tokens g' ++ sign fixed.Assign p' ∷ l' → (g ≡ g') × (p ≡ p') × (l ≡ l')

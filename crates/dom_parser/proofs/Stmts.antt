@@ -12,11 +12,13 @@ use Rattle.dom_parser.specs.declared.kinds.Kind.TheVariants as kind
 use Rattle.dom_parser.specs.declared.kinds.Suffix.TheVariants as suffix
 use Rattle.dom_parser.specs.declared.kinds.Lead.{Lead}
 use Rattle.dom_parser.specs.declared.kinds.Lead.TheVariants as lead
-use Rattle.dom_parser.specs.Tokens.{Mark, rest, stands, offset_at, text_at, is_fixed, is_name, ahead}
+use Rattle.dom_parser.specs.Tokens.{Mark, stands, offset_at, ahead}
+use Rattle.dom_parser.specs.inner.AtPlace.{rest, text_at, is_fixed, is_name}
 use Rattle.dom_parser.specs.Grammar.{top, sign, name_mark, tokens, tree, goal_word, goal_field, goal_index, goal_tokens, goal_tree, assigned, no_more, then_stmt, an_assign, an_if, body_block, body_assign, no_else, else_block, else_stmt, stmts_tokens, stmt_tokens, body_tokens, else_tokens, stmts_trees, body_tree, else_tree}
-use Rattle.dom_parser.specs.Following as item
-use Rattle.dom_parser.specs.Following.{Item, term, close, ended, level, when, then_row, paren_row, bracket_row, target_row, assign_row, if_row, block_row, stmt_row, body_row, else_row, suffix_of, lead_of, begins, expand, may_skip, held, limit, Problem, bad, deep, fault_from}
-use Rattle.dom_parser.specs.Reads.{FailsBy, Step, Reads, Passes, SpellsExpr, ReadsIn, FailsIn, ReadsGoal, SpellsAssign, SpellsCondition, SpellsStmt, SpellsBlock, SpellsBody, SpellsElse, with_stmts, StmtsSoFar}
+use Rattle.dom_parser.specs.inner.Following as item
+use Rattle.dom_parser.specs.inner.Following.{Item, term, close, ended, level, when, then_row, paren_row, bracket_row, target_row, assign_row, if_row, block_row, stmt_row, body_row, else_row, suffix_of, lead_of, begins, expand, may_skip, held, limit, Problem, bad, deep, fault_from}
+use Rattle.dom_parser.specs.inner.Reads.{FailsBy, Step, Reads, Passes, SpellsExpr, ReadsIn, FailsIn, ReadsGoal, SpellsAssign, SpellsCondition, SpellsStmt, SpellsBlock, SpellsBody, SpellsElse}
+use Rattle.dom_parser.proofs.SoFar.{with_stmts, StmtsSoFar}
 use Rattle.dom_ast.specs.declared.expr.Expr.{Expr}
 use Rattle.dom_ast.specs.declared.stmt.Target.{Target as TargetTree}
 use Rattle.dom_ast.specs.declared.stmt.Stmt.TheVariants.{Assign as AssignTree, If as IfTree}

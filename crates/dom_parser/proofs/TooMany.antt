@@ -12,9 +12,9 @@ use Rattle.dom_parser.specs.declared.kinds.Kind.TheVariants as kind
 use Rattle.dom_parser.specs.Tokens as Tokens
 use Rattle.dom_parser.specs.Tokens.{Mark, mark, is_minus, is_number, number_first}
 use Rattle.dom_parser.specs.Grammar.{Program, program_opens}
-use Rattle.dom_parser.specs.Following as item
-use Rattle.dom_parser.specs.Following.{Item, step, held, Trace, fine, stuck, count, on_step, trace, problem, bad, deep, limit, whole}
-use Rattle.dom_parser.specs.HeadReads.{FailsWholeBy}
+use Rattle.dom_parser.specs.inner.Following as item
+use Rattle.dom_parser.specs.inner.Following.{Item, step, held, Trace, fine, stuck, count, on_step, trace, problem, bad, deep, limit, whole}
+use Rattle.dom_parser.specs.inner.HeadReads.{FailsWholeBy}
 use Rattle.dom_parser.specs.Faults.{located_at, BeginsWith, IsFirstOver, OpensTooMany, Rules, IsFirstFault}
 use Rattle.dom_parser.proofs.Traces.{counted}
 use Rattle.dom_parser.proofs.Whole.{program_traced}

@@ -7,10 +7,11 @@ use Rattle.dom_parser.specs.declared.kinds.Kind.{Kind}
 use Rattle.dom_parser.specs.declared.kinds.Kind.TheVariants as kind
 use Rattle.dom_parser.specs.declared.kinds.Begin.{Begin}
 use Rattle.dom_parser.specs.declared.kinds.Fixed.TheVariants as fixed
-use Rattle.dom_parser.specs.Tokens.{Mark, mark, name_text, token_kind, word_text, is_fixed, unary_of, number_first}
+use Rattle.dom_parser.specs.Tokens.{Mark, mark, name_text, token_kind, word_text, number_first}
+use Rattle.dom_parser.specs.inner.AtPlace.{is_fixed, unary_of}
 use Rattle.dom_parser.specs.Grammar.{top, IsViable}
-use Rattle.dom_parser.specs.Following as item
-use Rattle.dom_parser.specs.Following.{Item, expand, may_skip, resume, step, held, Trace, fine, stuck, count, on_step, trace, then_row, problem, Problem, bad, deep, limit, whole}
+use Rattle.dom_parser.specs.inner.Following as item
+use Rattle.dom_parser.specs.inner.Following.{Item, expand, may_skip, resume, step, held, Trace, fine, stuck, count, on_step, trace, then_row, problem, Problem, bad, deep, limit, whole}
 use Rattle.dom_parser.proofs.Traces.{counted}
 use Rattle.dom_parser.proofs.Kept.{expand_any, at_step, take_map}
 use Rattle.dom_parser.proofs.Derived.{AllClean, spelled}

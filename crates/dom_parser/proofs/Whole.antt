@@ -12,11 +12,12 @@ use Rattle.dom_parser.specs.declared.faults.Fault.{Fault}
 use Rattle.dom_parser.specs.declared.faults.Fault.TheVariants as place
 use Rattle.dom_parser.specs.declared.faults.ParseFault.{ParseFault}
 use Rattle.dom_parser.specs.Faults.{unexpected_at, located_at, SpellsNone}
-use Rattle.dom_parser.specs.HeadReads.{ReadsWhole, FailsWholeBy}
-use Rattle.dom_parser.specs.Tokens.{Mark, mark, is_fixed, stands, offset_at}
+use Rattle.dom_parser.specs.inner.HeadReads.{ReadsWhole, FailsWholeBy}
+use Rattle.dom_parser.specs.Tokens.{Mark, mark, stands, offset_at}
+use Rattle.dom_parser.specs.inner.AtPlace.{is_fixed}
 use Rattle.dom_parser.specs.Grammar.{top, sign, name_mark, Way, IsAt, tokens, opens, goal_word, goal_field, goal_index, Assign, assigned, IsAssign, assign_tokens, assign_opens, Stmts, no_more, then_stmt, Stmt, an_assign, an_if, Body, body_block, body_assign, Else, no_else, else_block, else_stmt, AreStmts, IsStmt, IsBody, IsElse, stmts_tokens, stmt_tokens, body_tokens, else_tokens, stmts_opens, stmt_opens, body_opens, else_opens, Constant, plain, negative, constant_tokens, constant_opens, Value, a_constant, a_name, value_tokens, value_opens, Start, no_start, bare, braced, start_tokens, start_opens, Size, no_size, number_size, name_size, size_tokens, size_opens, Decl, a_define, a_global, decl_tokens, decl_opens, Decls, no_decls, then_decl, decls_tokens, decls_opens, Fields, no_fields, a_field_of, field_tokens, field_opens, Structure, a_struct, struct_tokens, struct_opens, Guard, no_guard, a_guard, IsGuard, guard_tokens, guard_opens, Transaction, a_transaction, IsTransaction, transaction_tokens, transaction_opens, Transactions, no_others, another, AreTransactions, transactions_tokens, transactions_opens, Program, program, IsProgram, program_tokens, program_opens, Spells, AreWithin, IsSpelled}
-use Rattle.dom_parser.specs.Following as item
-use Rattle.dom_parser.specs.Following.{Item, term, close, ended, level, assign_row, if_row, expand, held, Trace, fine, stuck, count, trace, limit, Problem, problem, whole}
+use Rattle.dom_parser.specs.inner.Following as item
+use Rattle.dom_parser.specs.inner.Following.{Item, term, close, ended, level, assign_row, if_row, expand, held, Trace, fine, stuck, count, trace, limit, Problem, problem, whole}
 use Rattle.dom_parser.proofs.Traces.{counted, counted_append, ends_close, in_brackets, way_traced, ended_passes, Refused, passes, goes}
 
 -- an expression and the symbol after it

@@ -1,10 +1,11 @@
 ghost use Rattle.std.specs.Prelude.{◌≡◌, ◌+◌, ◌-◌, ◌<◌, ◌≤◌, ◌++◌, [], ◌∷◌, IfErr, IfOk, OnOk, length};
 ghost use Rattle.dom_ast.specs.Form.{form, stmt_form, stmt_forms, target_form};
 ghost use Rattle.dom_parser.specs.declared.kinds.Lead.TheVariants as lead;
-ghost use Rattle.dom_parser.specs.Tokens.{Where, stands};
-ghost use Rattle.dom_parser.specs.Following as item;
-ghost use Rattle.dom_parser.specs.Following.{begins, lead_of, limit};
-ghost use Rattle.dom_parser.specs.Reads.{FailsBy, Passes, Reads, ReadsGoal, SpellsAssign, SpellsBlock, SpellsBody, SpellsCondition, SpellsElse, SpellsStmt};
+ghost use Rattle.dom_parser.specs.inner.AtPlace.{Where};
+ghost use Rattle.dom_parser.specs.Tokens.{stands};
+ghost use Rattle.dom_parser.specs.inner.Following as item;
+ghost use Rattle.dom_parser.specs.inner.Following.{begins, lead_of, limit};
+ghost use Rattle.dom_parser.specs.inner.Reads.{FailsBy, Passes, Reads, ReadsGoal, SpellsAssign, SpellsBlock, SpellsBody, SpellsCondition, SpellsElse, SpellsStmt};
 
 use crate::expressions::{enclosed, expression};
 use crate::faults::{Fault, MOST_OPEN};

@@ -17,7 +17,8 @@ use Rattle.dom_parser.specs.declared.kinds.Lead.{Lead}
 use Rattle.dom_parser.specs.declared.kinds.Lead.TheVariants as lead
 use Rattle.dom_parser.specs.declared.kinds.Declared.{Declared}
 use Rattle.dom_parser.specs.declared.kinds.Declared.TheVariants as declared
-use Rattle.dom_parser.specs.Tokens.{Mark, rest, is_fixed, is_name, is_minus, number_of, number_first, operator_of, unary_of}
+use Rattle.dom_parser.specs.Tokens.{Mark, is_minus, number_first}
+use Rattle.dom_parser.specs.inner.AtPlace.{rest, is_fixed, is_name, number_of, operator_of, unary_of}
 use Rattle.dom_parser.specs.Grammar.{top}
 
 -- what may begin an operand that has no operator before it
