@@ -1,5 +1,6 @@
 -- What the parser's functions read, and where they fail. Only proofs and contracts of private functions cite this.
 use Rattle.std.specs.Prelude.{◌≡◌, ℕ, ◌+◌, ◌-◌, ◌%◌, ◌^◌, ◌<◌, ◌≤◌, if◌then◌else◌, List, [], ◌∷◌, ◌++◌, Option, Some, None, length}
+use Rattle.dom_words.specs.Number.{negated}
 use Rattle.dom_words.specs.declared.operators.BinOp.{BinOp}
 use Rattle.dom_lexer.specs.declared.token.Token.{Token}
 use Rattle.dom_ast.specs.Form.{ExprForm, ExprForms, TargetForm, StmtForm, StmtForms}
@@ -12,7 +13,7 @@ use Rattle.dom_parser.specs.declared.kinds.Fixed.TheVariants as fixed
 use Rattle.dom_parser.specs.declared.kinds.Kind.{Kind}
 use Rattle.dom_parser.specs.Tokens.{Mark, stands, offset_at, ahead}
 use Rattle.dom_parser.specs.inner.AtPlace.{rest, number_of}
-use Rattle.dom_parser.specs.Grammar.{top, sign, Way, IsAt, tokens, tree, More, IsAfter, more_tokens, more_trees, Tail, and_op, Args, AreArgs, arg_tokens, arg_trees, MoreArgs, AreMoreArgs, more_arg_tokens, more_arg_trees, Goal, IsGoal, goal_tokens, goal_tree, first_place, Assign, IsAssign, assign_tokens, assign_tree, Stmts, AreStmts, stmts_tokens, stmts_trees, Stmt, IsStmt, stmt_tokens, stmt_tree, Body, IsBody, body_tokens, body_tree, Else, IsElse, else_tokens, else_tree}
+use Rattle.dom_parser.specs.Grammar.{top, sign, Way, IsAt, tokens, tree, More, IsAfter, more_tokens, more_trees, Tail, and_op, Args, AreArgs, arg_tokens, arg_trees, MoreArgs, AreMoreArgs, more_arg_tokens, more_arg_trees, TargetWay, IsTarget, target_tokens, target_tree, first_place, Assign, IsAssign, assign_tokens, assign_tree, Stmts, AreStmts, stmts_tokens, stmts_trees, Stmt, IsStmt, stmt_tokens, stmt_tree, Body, IsBody, body_tokens, body_tree, Else, IsElse, else_tokens, else_tree}
 use Rattle.dom_parser.specs.inner.Following.{Item, level, more, close, name_rest, more_args, target_rest, stmts, expand, is_neg, Problem, bad, deep, held, fault_from}
 
 -- where n constructs are open, the item has a fault
@@ -62,20 +63,16 @@ pub record ReadsArgs (n : ℕ) (l : List Token) (p q : ℕ) (es : ExprForms) : T
   pub reads : Step name_rest n l p q
   pub spelled : (way : Args) × AreArgs way × (r : ℕ) × (rest l (p + 1) ≡ arg_tokens way ++ sign fixed.CloseParen r ∷ rest l q) × (arg_trees way ≡ es)
 
--- the word of a number after a `-`
-abbrev pub negated_word : Option ℕ → Option ℕ
-negated_word None = None
-negated_word (Some w) = Some ((2 ^ 32 - w) % 2 ^ 32)
-
+-- the word of a number after an operator, where that is a `-`
 abbrev pub negated_in : UnOp → Kind → Option ℕ
-negated_in o k = if is_neg o then negated_word (number_of k) else None
+negated_in o k = if is_neg o then negated (number_of k) else None
 
 -- a target, of which the name stands at p
-pub record ReadsGoal (n : ℕ) (l : List Token) (p q : ℕ) (t : TargetForm) : Type 0 where
+pub record ReadsTarget (n : ℕ) (l : List Token) (p q : ℕ) (t : TargetForm) : Type 0 where
   pub forth : p < q
   pub within : q ≤ length l
   pub reads : Step target_rest n l (p + 1) q
-  pub spelled : (way : Goal) × IsGoal way × (rest l p ≡ goal_tokens way ++ rest l q) × (goal_tree way ≡ t) × (first_place way ≡ offset_at l p)
+  pub spelled : (way : TargetWay) × IsTarget way × (rest l p ≡ target_tokens way ++ rest l q) × (target_tree way ≡ t) × (first_place way ≡ offset_at l p)
 
 abbrev pub SpellsAssign : StmtForm → List Mark → Type 0
 SpellsAssign a ts = (way : Assign) × IsAssign way × (assign_tokens way ≡ ts) × (assign_tree way ≡ a)
