@@ -5,7 +5,7 @@ use Rattle.dom_lexer.specs.declared.token.LexFault.{LexFault}
 use Rattle.dom_lexer.proofs.One.{one_answer}
 use Rattle.dom_parser.specs.declared.faults.ParseFault.{ParseFault}
 use Rattle.dom_parser.specs.Faults.{IsFirstFault}
-use Rattle.dom_parser.specs.Grammar.{IsSpelled}
+use Rattle.dom_parser.specs.Grammar.{SpellsWithin}
 use Rattle.dom_parser.proofs.OneFault as fault
 use Rattle.dom_parser.proofs.OneProgram.{one_tree}
 use Rattle.dom_ast.specs.Form.{ProgramForm}
@@ -31,8 +31,8 @@ no_lex_fault text k f a b = let e = one_answer text (Ok k) (Err f) (a.lexed, a.f
 one_tree_of : (text : List ℕ) (p q : ProgramForm) → HasProgram text p → HasProgram text q → p ≡ q
 one_tree_of text p q a b =
     let same : b.tokens ≡ a.tokens = one_tokens text b.tokens a.tokens b.has_tokens a.has_tokens in
-    let s : IsSpelled p a.tokens = a.spelled in
-    let t : IsSpelled q a.tokens = subst (λ (l : List Token). IsSpelled q l) same b.spelled in
+    let s : SpellsWithin p a.tokens = a.spelled in
+    let t : SpellsWithin q a.tokens = subst (λ (l : List Token). SpellsWithin q l) same b.spelled in
     one_tree p q a.tokens (s.0, s.1, s.2, s.3) (t.0, t.1, t.2, t.3)
 
 one_parse_fault : (text : List ℕ) (f g : ParseFault) → HasParseFault text f → HasParseFault text g → f ≡ g
@@ -43,7 +43,7 @@ one_parse_fault text f g a b =
 no_parse_fault : (text : List ℕ) (p : ProgramForm) (f : ParseFault) → HasProgram text p → HasParseFault text f → ⊥
 no_parse_fault text p f a b =
     let same : a.tokens ≡ b.tokens = one_tokens text a.tokens b.tokens a.has_tokens b.has_tokens in
-    b.none p (subst (λ (l : List Token). IsSpelled p l) same a.spelled)
+    b.none p (subst (λ (l : List Token). SpellsWithin p l) same a.spelled)
 
 -- The checks of the one program.
 

@@ -7,7 +7,7 @@ use Rattle.dom_lexer.specs.Text.{IsFault, Lexed, most_tokens}
 use Rattle.dom_parser.specs.declared.faults.ParseFault.{ParseFault}
 use Rattle.dom_parser.specs.declared.faults.ParseFault.TheVariants as parse
 use Rattle.dom_parser.specs.Faults.{IsFirstFault}
-use Rattle.dom_parser.specs.Grammar.{IsSpelled}
+use Rattle.dom_parser.specs.Grammar.{SpellsWithin}
 use Rattle.dom_ast.specs.Form.{ProgramForm}
 use Rattle.dom_ast.specs.Resolved.{CheckedForm}
 use Rattle.dom_checks.specs.declared.faults.CheckFault.{CheckFault}
@@ -28,7 +28,7 @@ pub record HasTokens (text : List ℕ) (tokens : List Token) : Type 0 where
 pub record HasProgram (text : List ℕ) (program : ProgramForm) : Type 0 where
   pub tokens : List Token
   pub has_tokens : HasTokens text tokens
-  pub spelled : IsSpelled program tokens
+  pub spelled : SpellsWithin program tokens
 
 -- the first fault of the bytes
 pub record HasLexFault (text : List ℕ) (fault : LexFault) : Type 0 where
@@ -41,7 +41,7 @@ pub record HasParseFault (text : List ℕ) (fault : ParseFault) : Type 0 where
   pub has_tokens : HasTokens text tokens
   pub first : IsFirstFault tokens (length text) fault
   pub told : fault ≡ parse.Memory → ⊥
-  pub none : (program : ProgramForm) → IsSpelled program tokens → ⊥
+  pub none : (program : ProgramForm) → SpellsWithin program tokens → ⊥
 
 -- the first check that does not hold
 pub record HasCheckFault (text : List ℕ) (fault : CheckFault) : Type 0 where

@@ -3,8 +3,8 @@ use Rattle.std.proofs.Common.{◌≡◌, ℕ, suc, ◌+◌, ◌<◌, Bool, true,
 use Rattle.std.proofs.lemmas.Bool.{and_parts, and_from, eqb-true, eq-eqb}
 use Rattle.std.specs.Cmp.Lexicographic.{pointwise}
 use Rattle.dom_lexer.specs.Text.{starts, close_mark, has_mark}
-use Rattle.dom_lexer.specs.Next.{close_len, one_more}
-use Rattle.dom_lexer.specs.Reads.{plus}
+use Rattle.dom_lexer.specs.inner.Next.{close_len, one_more}
+use Rattle.dom_lexer.proofs.SoFar.{plus}
 
 plus_more : (at : ℕ) (o : Option ℕ) → plus at (one_more o) ≡ plus (at + 1) o
 plus_more at None = refl

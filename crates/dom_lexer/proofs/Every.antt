@@ -3,8 +3,9 @@ use Rattle.std.proofs.Common.{◌≡◌, ℕ, zero, suc, ◌+◌, ◌≤◌, ◌
 use Rattle.std.proofs.lemmas.Bool.{leb-true, leb-false, cases_lt}
 use Rattle.dom_lexer.specs.Text.{IsFault, StartsToken, most_tokens}
 use Rattle.dom_lexer.specs.Answer.{IsAnswer}
-use Rattle.dom_lexer.specs.Next.{next_of}
-use Rattle.dom_lexer.specs.Reads.{BeginsToken, Grows, IsForm, IsNext, SoFar}
+use Rattle.dom_lexer.specs.inner.Next.{next_of}
+use Rattle.dom_lexer.specs.inner.Reads.{BeginsToken, Grows, IsForm, IsNext}
+use Rattle.dom_lexer.proofs.SoFar.{SoFar}
 use Rattle.dom_lexer.specs.declared.token.Token.{Token}
 use Rattle.dom_lexer.specs.declared.token.TokenKind.{TokenKind}
 use Rattle.dom_lexer.specs.declared.token.TokenKind.TheVariants.{Word, Number, Sym as Sign}

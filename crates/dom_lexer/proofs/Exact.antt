@@ -3,7 +3,7 @@ use Rattle.std.proofs.Common.{◌≡◌, ℕ, ◌≤◌, ◌⊎◌, inl, inr, Li
 use Rattle.std.proofs.lemmas.List.{drop_all}
 use Rattle.dom_lexer.specs.Text.{Lexed, Row, IsFault, most_tokens}
 use Rattle.dom_lexer.specs.Answer.{IsAnsweredExactly}
-use Rattle.dom_lexer.specs.Reads.{SoFar, IsFaultOrMemory}
+use Rattle.dom_lexer.proofs.SoFar.{SoFar, IsFaultOrMemory}
 use Rattle.dom_lexer.specs.declared.token.Token.{Token}
 use Rattle.dom_lexer.specs.declared.token.LexFault.{LexFault}
 use Rattle.dom_lexer.specs.declared.token.LexFault.TheVariants.{BadByte, OpenComment, BigLiteral, TooManyTokens, Memory}

@@ -9,8 +9,8 @@ use Rattle.std.proofs.lemmas.Bool.{and_parts, and_from, leb-true, leb-false}
 use Rattle.dom_lexer.specs.Bytes.{is_space, is_number, is_decimal, is_hex, is_x, number_value}
 use Rattle.dom_words.specs.Spelling.{is_word_start, is_word_byte}
 use Rattle.dom_lexer.specs.Text.{space, line, block, spelling, IsLongest, IsWord, IsNumber, IsSymbol, starts, first_is, close_mark, open_mark, line_mark, is_no_feed, BeginsNumber, greatest_number}
-use Rattle.dom_lexer.specs.Next.{class_by, class_of, hex_starts, hex_by, hex_len, number_len, number_form, form_by, up_to, close_len, block_next, symbol_of, symbol_next, mark_by, mark_next, next_by, next_of}
-use Rattle.dom_lexer.specs.Reads.{IsForm, IsNext}
+use Rattle.dom_lexer.specs.inner.Next.{class_by, class_of, hex_starts, hex_by, hex_len, number_len, number_form, form_by, up_to, close_len, block_next, symbol_of, symbol_next, mark_by, mark_next, next_by, next_of}
+use Rattle.dom_lexer.specs.inner.Reads.{IsForm, IsNext}
 use Rattle.dom_lexer.specs.declared.token.Sym.{Sym}
 use Rattle.dom_lexer.specs.declared.next.Class.{Class}
 use Rattle.dom_lexer.specs.declared.next.Class.TheVariants.{Blank, Letter, Digit, Other}

@@ -1,3 +1,4 @@
+pub mod SoFar
 pub mod Runs
 pub mod Blocks
 pub mod Values

@@ -6,7 +6,7 @@ use Rattle.std.proofs.lemmas.Bool.{and_parts, and_from, eqb-true, eq-eqb}
 use Rattle.dom_lexer.specs.Bytes.{is_space, is_number, is_decimal, is_hex, number_value}
 use Rattle.dom_words.specs.Spelling.{is_word_start, is_word_byte}
 use Rattle.dom_lexer.specs.Text.{Piece, space, line, block, token, spelling, IsLongest, IsWord, IsNumber, IsSymbol, starts, first_is, has_mark, close_mark, open_mark, line_mark, is_no_feed, StartsNothing, StartsToken, StartsOpenComment, StartsBigNumber, StartsTouchedNumber, BeginsNumber, greatest_number, bytes_of, Stands, Row, tokens_of, tokens_from, most_tokens, Lexed, IsFault, IsFaultAt}
-use Rattle.dom_lexer.specs.Next.{class_by, class_of}
+use Rattle.dom_lexer.specs.inner.Next.{class_by, class_of}
 use Rattle.dom_lexer.specs.Answer.{IsAnswer}
 use Rattle.dom_lexer.specs.declared.token.Sym.{Sym}
 use Rattle.dom_lexer.specs.declared.token.Sym.TheVariants.{Slash}

@@ -3,7 +3,8 @@ use Rattle.std.proofs.Common.{◌≡◌, ℕ, ◌+◌, ◌-◌, ◌≤◌, ◌<�
 use Rattle.std.proofs.Math.Seq.{drop-append_seam}
 use Rattle.std.proofs.lemmas.List.{append-nil, drop-drop}
 use Rattle.dom_lexer.specs.Text.{Piece, token, bytes_of, Stands, Row, tokens_of, tokens_from, most_tokens, IsFaultAt, IsFault}
-use Rattle.dom_lexer.specs.Reads.{Begins, BeginsGap, BeginsToken, Grows, SoFar, FaultHere, IsFaultOrMemory}
+use Rattle.dom_lexer.specs.inner.Reads.{Begins, BeginsGap, BeginsToken, Grows, FaultHere}
+use Rattle.dom_lexer.proofs.SoFar.{SoFar, IsFaultOrMemory}
 use Rattle.dom_lexer.specs.declared.token.TokenKind.{TokenKind}
 use Rattle.dom_lexer.specs.declared.token.Token.{Token}
 use Rattle.dom_lexer.specs.declared.token.LexFault.{LexFault}

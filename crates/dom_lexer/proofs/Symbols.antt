@@ -3,7 +3,7 @@ use Rattle.std.proofs.Common.{◌≡◌, ℕ, zero, suc, ◌≤◌, Bool, true, 
 use Rattle.std.specs.List.{find, list_all}
 use Rattle.std.proofs.lemmas.Bool.{and_parts, and_from, leb-true, le-leb}
 use Rattle.dom_lexer.specs.Text.{spelling, starts, first_is}
-use Rattle.dom_lexer.specs.Next.{symbols, symbol_of, class_of}
+use Rattle.dom_lexer.specs.inner.Next.{symbols, symbol_of, class_of}
 use Rattle.dom_lexer.specs.declared.next.Class.{Class}
 use Rattle.dom_lexer.specs.declared.next.Class.TheVariants.{Blank, Letter, Digit, Other}
 use Rattle.dom_lexer.specs.declared.token.Sym.{Sym}

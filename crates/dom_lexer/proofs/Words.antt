@@ -1,10 +1,10 @@
 -- The words of a text are words, they fit into it, and a word is lexed as itself.
-use Rattle.std.proofs.Common.{◌≡◌, ℕ, ◌+◌, ◌≤◌, true, List, [], ◌∷◌, ◌++◌, length, refl, sym, ap, ◌∙◌, subst, arith, length-append, append-nil}
+use Rattle.std.proofs.Common.{◌≡◌, ℕ, ◌+◌, ◌≤◌, true, List, [], ◌∷◌, ◌++◌, length, refl, sym, ap, ◌∙◌, arith, length-append, append-nil}
 use Rattle.std.specs.List.{list_all, sum_by}
 use Rattle.std.proofs.lemmas.Bool.{and_from, and_parts}
 use Rattle.std.proofs.lemmas.List.Sums.{sum_by-cons}
 use Rattle.dom_words.specs.Spelling.{is_word}
-use Rattle.dom_lexer.specs.Text.{Piece, space, line, block, token, IsWord, Lexed, Row, bytes_of, line_mark, open_mark, close_mark, tokens_from}
+use Rattle.dom_lexer.specs.Text.{Piece, space, line, block, token, IsWord, Lexed, Row, line_mark, open_mark, close_mark, tokens_from}
 use Rattle.dom_lexer.specs.Words.{AreWordsOf, word_alone, words_of}
 use Rattle.dom_lexer.specs.declared.token.TokenKind.TheVariants.{Word, Number, Sym as Symbol}
 use Rattle.dom_lexer.specs.declared.token.Token.{Token}

@@ -2,5 +2,4 @@ pub mod Bytes
 pub mod Text
 pub mod Words
 pub mod Answer
-pub mod Next
-pub mod Reads
+pub mod inner

@@ -3,7 +3,7 @@ ghost use Rattle.dom_lexer.specs.declared.token.Token.{Token};
 ghost use Rattle.dom_lexer.specs.declared.token.LexFault.{LexFault};
 ghost use Rattle.dom_lexer.specs.Answer.{IsAnsweredExactly};
 ghost use Rattle.dom_lexer.specs.Text.{Lexed, most_tokens};
-ghost use Rattle.dom_lexer.specs.Reads.{BeginsToken, FaultHere, Grows, IsForm, IsTokenFault};
+ghost use Rattle.dom_lexer.specs.inner.Reads.{BeginsToken, FaultHere, Grows, IsForm, IsTokenFault};
 
 use crate::next::{Form, Next, front, next_at, tail};
 use crate::token::{LexFault, Token, TokenKind, TokenList, Tokens};

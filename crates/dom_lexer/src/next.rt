@@ -4,8 +4,8 @@ ghost use Rattle.std.specs.Char.{is_ascii_digit, is_ascii_hexdigit};
 ghost use Rattle.dom_lexer.specs.Bytes.{is_space, number_value, is_x, digit_of, based};
 ghost use Rattle.dom_words.specs.Spelling.{is_word_byte};
 ghost use Rattle.dom_lexer.specs.Text.{first_is, is_no_feed, starts, close_mark, greatest_number};
-ghost use Rattle.dom_lexer.specs.Next.{class_of, hex_len, number_len, number_form, close_len, mark_next, next_of, up_to};
-ghost use Rattle.dom_lexer.specs.Reads.{IsNext};
+ghost use Rattle.dom_lexer.specs.inner.Next.{class_of, hex_len, number_len, number_form, close_len, mark_next, next_of, up_to};
+ghost use Rattle.dom_lexer.specs.inner.Reads.{IsNext};
 
 use crate::symbol::{begins, symbol};
 use crate::token::Sym;

@@ -1,6 +1,6 @@
 ghost use Rattle.std.specs.Prelude.{◌≡◌, ◌≤◌, length, true};
 ghost use Rattle.dom_lexer.specs.Text.{spelling, starts};
-ghost use Rattle.dom_lexer.specs.Next.{symbol_of};
+ghost use Rattle.dom_lexer.specs.inner.Next.{symbol_of};
 
 use crate::token::Sym;
 

@@ -22,7 +22,8 @@ use Rattle.dom_parser.specs.declared.kinds.Kind.{Kind}
 use Rattle.dom_parser.specs.declared.kinds.Kind.TheVariants as kind
 use Rattle.dom_parser.specs.Grammar.{Decl, Decls, Fields, Program, Spells, Structure, a_define, a_field_of, a_global, a_struct, decl_tokens, decl_tree, decls_tokens, decls_trees, field_tokens, field_trees, no_decls, no_fields, program, program_tokens, program_tree, sign, struct_tokens, struct_tree, then_decl, transaction_tokens, transactions_tokens}
 use Rattle.dom_parser.specs.Names.{AreNamedBy}
-use Rattle.dom_parser.specs.Tokens.{Mark, is_name as is_name_kind, kind_by, mark, name_text, symbol_kind, token_kind, word_kind, word_text}
+use Rattle.dom_parser.specs.Tokens.{Mark, kind_by, mark, name_text, symbol_kind, token_kind, word_kind, word_text}
+use Rattle.dom_parser.specs.inner.AtPlace.{is_name as is_name_kind}
 use Rattle.dom_parser.proofs.KnownKinds.{kind_name}
 
 -- the kind of a word by which of the words it is

@@ -18,10 +18,11 @@ use Rattle.dom_parser.specs.declared.kinds.Lead.{Lead}
 use Rattle.dom_parser.specs.declared.kinds.Lead.TheVariants as lead
 use Rattle.dom_parser.specs.declared.kinds.Declared.{Declared}
 use Rattle.dom_parser.specs.declared.kinds.Declared.TheVariants as declared
-use Rattle.dom_parser.specs.Tokens.{Mark, name_text, is_fixed, is_name, number_of, operator_of, unary_of, is_minus, number_first}
-use Rattle.dom_parser.specs.Grammar.{top, sign, name_mark, number_mark, bin_mark, un_mark, un_kind, Way, a_number, a_negated, a_word, a_field, an_index, a_call, in_parens, operated, level_of, More, stop, and_then, if_so, Args, no_args, some_args, MoreArgs, last_arg, next_arg, MakesNode, IsAt, IsAfter, AreArgs, AreMoreArgs, tokens, more_tokens, arg_tokens, more_arg_tokens, Goal, goal_word, goal_field, goal_index, IsGoal, goal_tokens, Assign, assigned, IsAssign, assign_tokens, Stmts, no_more, then_stmt, Stmt, an_assign, an_if, Body, body_block, body_assign, Else, no_else, else_block, else_stmt, AreStmts, IsStmt, IsBody, IsElse, stmts_tokens, stmt_tokens, body_tokens, else_tokens, Constant, plain, negative, constant_tokens, Value, a_constant, a_name, value_tokens, Start, no_start, bare, braced, start_tokens, Size, no_size, number_size, name_size, size_tokens, Decl, a_define, a_global, decl_tokens, Decls, no_decls, then_decl, decls_tokens, Fields, no_fields, a_field_of, field_tokens, Structure, a_struct, struct_tokens, Guard, no_guard, a_guard, IsGuard, guard_tokens, Transaction, a_transaction, IsTransaction, transaction_tokens, Transactions, no_others, another, AreTransactions, transactions_tokens, Program, program, IsProgram, program_tokens}
-use Rattle.dom_parser.specs.Following as item
-use Rattle.dom_parser.specs.Following.{Item, begin_of, begin_row, expand, may_skip, resume, step, held, Trace, fine, stuck, count, on_step, trace, when, then_row}
+use Rattle.dom_parser.specs.Tokens.{Mark, name_text, is_minus, number_first}
+use Rattle.dom_parser.specs.inner.AtPlace.{is_fixed, is_name, number_of, operator_of, unary_of}
+use Rattle.dom_parser.specs.Grammar.{top, sign, name_mark, number_mark, bin_mark, un_mark, un_kind, Way, a_number, a_negated, a_word, a_field, an_index, a_call, in_parens, operated, level_of, More, stop, and_then, if_so, Args, no_args, some_args, MoreArgs, last_arg, next_arg, MakesNode, IsAt, IsAfter, AreArgs, AreMoreArgs, tokens, more_tokens, arg_tokens, more_arg_tokens, TargetWay, target_word, target_field, target_index, IsTarget, target_tokens, Assign, assigned, IsAssign, assign_tokens, Stmts, no_more, then_stmt, Stmt, an_assign, an_if, Body, body_block, body_assign, Else, no_else, else_block, else_stmt, AreStmts, IsStmt, IsBody, IsElse, stmts_tokens, stmt_tokens, body_tokens, else_tokens, Constant, plain, negative, constant_tokens, Value, a_constant, a_name, value_tokens, Start, no_start, bare, braced, start_tokens, Size, no_size, number_size, name_size, size_tokens, Decl, a_define, a_global, decl_tokens, Decls, no_decls, then_decl, decls_tokens, Fields, no_fields, a_field_of, field_tokens, Structure, a_struct, struct_tokens, Guard, no_guard, a_guard, IsGuard, guard_tokens, Transaction, a_transaction, IsTransaction, transaction_tokens, Transactions, no_others, another, AreTransactions, transactions_tokens, Program, program, IsProgram, program_tokens}
+use Rattle.dom_parser.specs.inner.Following as item
+use Rattle.dom_parser.specs.inner.Following.{Item, begin_of, begin_row, expand, may_skip, resume, step, held, Trace, fine, stuck, count, on_step, trace, when, then_row}
 use Rattle.dom_parser.proofs.KnownKinds.{kind_fixed, kind_name, kind_number, kind_minus, kind_unary, kind_operator, begin_paren, begin_number, begin_name, suffix_dot, suffix_bracket, suffix_paren, lead_block, lead_if, lead_assign, declared_define, declared_global}
 use Rattle.dom_parser.proofs.Traces.{counted}
 
@@ -37,7 +38,7 @@ Of (item.more k) ts = (m : More) × IsAfter k m × (ts ≡ more_tokens m)
 Of item.name_rest ts = (x : ℕ) (n : List ℕ) → (w : Way) × IsAt zero w × (name_mark x n ∷ ts ≡ tokens w)
 Of item.args ts = (a : Args) × (r : ℕ) × AreArgs a × (ts ≡ arg_tokens a ++ sign fixed.CloseParen r ∷ [])
 Of item.more_args ts = (m : MoreArgs) × AreMoreArgs m × (ts ≡ more_arg_tokens m)
-Of item.target_rest ts = (x : ℕ) (n : List ℕ) → (g : Goal) × IsGoal g × (name_mark x n ∷ ts ≡ goal_tokens g)
+Of item.target_rest ts = (x : ℕ) (n : List ℕ) → (g : TargetWay) × IsTarget g × (name_mark x n ∷ ts ≡ target_tokens g)
 Of item.assignment ts = (a : Assign) × IsAssign a × (ts ≡ assign_tokens a)
 Of item.stmt ts = (a : Stmt) × IsStmt a × (ts ≡ stmt_tokens a)
 Of item.stmts ts = (b : Stmts) × AreStmts b × (ts ≡ stmts_tokens b)
@@ -77,7 +78,7 @@ of_nothing (item.more j) e = (stop, tt, refl)
 of_nothing item.name_rest e = λ x n. (a_word x n, tt, refl)
 of_nothing item.args e = absurd (cc)
 of_nothing item.more_args e = (last_arg, tt, refl)
-of_nothing item.target_rest e = λ x n. (goal_word x n, tt, refl)
+of_nothing item.target_rest e = λ x n. (target_word x n, tt, refl)
 of_nothing item.assignment e = absurd (cc)
 of_nothing item.stmt e = absurd (cc)
 of_nothing item.stmts e = (no_more, tt, refl)
@@ -259,10 +260,10 @@ from_comma t row ts c r d =
 from_target : (t : Mark) (s : Suffix) (row : List Item) (ts : List Mark) → Clean t → item.suffix_of t.kind ≡ s → item.target_row s ≡ Some row → OfRow row ts → Of item.target_rest (t ∷ ts)
 from_target t suffix.Dot row ts c e r d = λ x n.
     let f = row1 item.a_name ts (same_row (item.a_name ∷ []) row ts r d) in
-    (goal_field x n t.place f.0 f.1, tt, ap (λ (y : Mark). name_mark x n ∷ y ∷ ts) (as_mark t (kind.Fixed fixed.Dot) c (suffix_dot t.kind e)) ∙ ap (λ (y : List Mark). name_mark x n ∷ sign fixed.Dot t.place ∷ y) f.2)
+    (target_field x n t.place f.0 f.1, tt, ap (λ (y : Mark). name_mark x n ∷ y ∷ ts) (as_mark t (kind.Fixed fixed.Dot) c (suffix_dot t.kind e)) ∙ ap (λ (y : List Mark). name_mark x n ∷ sign fixed.Dot t.place ∷ y) f.2)
 from_target t suffix.Bracket row ts c e r d = λ x n.
     let f = row2 (item.level top) (item.close fixed.CloseBracket) ts (same_row item.bracket_row row ts r d) in
-    (goal_index x n t.place f.3.0 f.4.0, f.3.1, ap (λ (y : Mark). name_mark x n ∷ y ∷ ts) (as_mark t (kind.Fixed fixed.OpenBracket) c (suffix_bracket t.kind e)) ∙ ap (λ (y : List Mark). name_mark x n ∷ sign fixed.OpenBracket t.place ∷ y) (f.2 ∙ ap (λ (y : List Mark). y ++ f.1) f.3.2 ∙ ap (λ (y : List Mark). tokens f.3.0 ++ y) f.4.1))
+    (target_index x n t.place f.3.0 f.4.0, f.3.1, ap (λ (y : Mark). name_mark x n ∷ y ∷ ts) (as_mark t (kind.Fixed fixed.OpenBracket) c (suffix_bracket t.kind e)) ∙ ap (λ (y : List Mark). name_mark x n ∷ sign fixed.OpenBracket t.place ∷ y) (f.2 ∙ ap (λ (y : List Mark). y ++ f.1) f.3.2 ∙ ap (λ (y : List Mark). tokens f.3.0 ++ y) f.4.1))
 from_target t suffix.Paren row ts c e r d = absurd (cc)
 from_target t suffix.Other row ts c e r d = absurd (cc)
 
@@ -270,7 +271,7 @@ assign_of : (t : Mark) (ts : List Mark) → Clean t → t.kind ≡ kind.Name →
 assign_of t ts c k d =
     let f = row4 item.target_rest (item.term fixed.Assign) (item.level top) (item.term fixed.Semi) ts d in
     let g = f.5 t.place t.text in
-    (assigned g.0 f.6.0 f.7.0 f.8.0, (g.1, f.7.1), ap (λ (y : Mark). y ∷ ts) (as_mark t kind.Name c k) ∙ ap (λ (y : List Mark). name_mark t.place t.text ∷ y) f.4 ∙ ap (λ (y : List Mark). y ++ (f.1 ++ (f.2 ++ f.3))) g.2 ∙ ap (λ (y : List Mark). goal_tokens g.0 ++ (y ++ (f.2 ++ f.3))) f.6.1 ∙ ap (λ (y : List Mark). goal_tokens g.0 ++ sign fixed.Assign f.6.0 ∷ (y ++ f.3)) f.7.2 ∙ ap (λ (y : List Mark). goal_tokens g.0 ++ sign fixed.Assign f.6.0 ∷ (tokens f.7.0 ++ y)) f.8.1)
+    (assigned g.0 f.6.0 f.7.0 f.8.0, (g.1, f.7.1), ap (λ (y : Mark). y ∷ ts) (as_mark t kind.Name c k) ∙ ap (λ (y : List Mark). name_mark t.place t.text ∷ y) f.4 ∙ ap (λ (y : List Mark). y ++ (f.1 ++ (f.2 ++ f.3))) g.2 ∙ ap (λ (y : List Mark). target_tokens g.0 ++ (y ++ (f.2 ++ f.3))) f.6.1 ∙ ap (λ (y : List Mark). target_tokens g.0 ++ sign fixed.Assign f.6.0 ∷ (y ++ f.3)) f.7.2 ∙ ap (λ (y : List Mark). target_tokens g.0 ++ sign fixed.Assign f.6.0 ∷ (tokens f.7.0 ++ y)) f.8.1)
 
 if_of : (t : Mark) (ts : List Mark) → Clean t → t.kind ≡ kind.Fixed fixed.If → OfRow item.if_row ts → Of item.stmt (t ∷ ts)
 if_of t ts c k d =

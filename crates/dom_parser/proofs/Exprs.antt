@@ -2,6 +2,7 @@
 use Rattle.std.proofs.Common.{◌≡◌, ℕ, zero, suc, ◌+◌, ◌-◌, ◌%◌, ◌^◌, ◌<◌, ◌≤◌, Bool, true, false, ◌&&◌, List, [], ◌∷◌, ◌++◌, map, Option, Some, None, length, refl, sym, ap, ◌∙◌, subst, arith, append_assoc, nat_eq, if◌then◌else◌}
 use Rattle.std.proofs.lemmas.Bool.{eqb-true}
 use Rattle.std.proofs.lemmas.List.{length-map, map-append}
+use Rattle.dom_words.specs.Number.{negated}
 use Rattle.dom_words.specs.declared.operators.BinOp.{BinOp}
 use Rattle.dom_words.specs.declared.operators.BinOp.TheVariants as bin
 use Rattle.dom_words.specs.declared.operators.UnOp.{UnOp}
@@ -18,11 +19,13 @@ use Rattle.dom_parser.specs.declared.kinds.Kind.TheVariants as kind
 use Rattle.dom_parser.specs.declared.kinds.Begin.{Begin}
 use Rattle.dom_parser.specs.declared.kinds.Begin.TheVariants as begin
 use Rattle.dom_parser.specs.declared.kinds.Suffix.TheVariants as suffix
-use Rattle.dom_parser.specs.Tokens.{Mark, rest, stands, offset_at, text_at, is_fixed, is_name, number_of, operator_of, unary_of, ahead, is_number, number_first}
+use Rattle.dom_parser.specs.Tokens.{Mark, stands, offset_at, ahead, is_number, number_first}
+use Rattle.dom_parser.specs.inner.AtPlace.{rest, text_at, is_fixed, is_name, number_of, operator_of, unary_of}
 use Rattle.dom_parser.specs.Grammar.{top, sign, name_mark, number_mark, bin_mark, un_mark, Way, a_number, a_negated, a_word, a_field, an_index, a_call, in_parens, operated, level_of, stop, and_then, if_so, no_args, some_args, last_arg, next_arg, MakesNode, tokens, more_tokens, arg_tokens, more_arg_tokens, Tail, ops, joined, and_op, tree, more_trees, more_arg_trees}
-use Rattle.dom_parser.specs.Following as item
-use Rattle.dom_parser.specs.Following.{Item, term, close, ended, level, more, args, args_row, name_rest, more_args, when, then_row, paren_row, bracket_row, begin_row, operand_row, operator_row, level_row, choice_row, suffix_row, begin_of, suffix_of, is_neg, expand, may_skip, held, limit, Problem, bad, deep, fault_from}
-use Rattle.dom_parser.specs.Reads.{FailsBy, Step, Reads, SpellsExpr, with_ops, OpsSoFar, LevelSoFar, ReadsIn, FailsIn, ReadsArgs, with_args, ArgsSoFar, negated_word, negated_in}
+use Rattle.dom_parser.specs.inner.Following as item
+use Rattle.dom_parser.specs.inner.Following.{Item, term, close, ended, level, more, args, args_row, name_rest, more_args, when, then_row, paren_row, bracket_row, begin_row, operand_row, operator_row, level_row, choice_row, suffix_row, begin_of, suffix_of, is_neg, expand, may_skip, held, limit, Problem, bad, deep, fault_from}
+use Rattle.dom_parser.specs.inner.Reads.{FailsBy, Step, Reads, SpellsExpr, ReadsIn, FailsIn, ReadsArgs, negated_in}
+use Rattle.dom_parser.proofs.SoFar.{with_ops, OpsSoFar, LevelSoFar, with_args, ArgsSoFar}
 use Rattle.dom_ast.specs.declared.expr.Expr.TheVariants.{Number, Word, Field, Call}
 use Rattle.dom_ast.specs.declared.expr.Expr.TheViews.{Un, Chain}
 use Rattle.std.specs.Prelude.{Box}
@@ -226,10 +229,10 @@ un_row b = if b then Some (item.a_number ∷ []) else Some (level 0 ∷ ended �
 unary_row : (l : List Token) (p : ℕ) (o : UnOp) → unary_of (stands l p) ≡ Some o → expand (level 0) (stands l p) (ahead l p) ≡ un_row (is_neg o && ahead l p)
 unary_row l p o e = ap (λ (x : Option UnOp). operand_row (ahead l p) x (begin_of (stands l p))) e
 
-number_is : (k : Kind) (w : ℕ) → negated_word (number_of k) ≡ Some w → (v : ℕ) × (k ≡ kind.Number v) × (w ≡ (2 ^ 32 - v) % 2 ^ 32)
+number_is : (k : Kind) (w : ℕ) → negated (number_of k) ≡ Some w → (v : ℕ) × (k ≡ kind.Number v) × (w ≡ (2 ^ 32 - v) % 2 ^ 32)
 number_is k w e = go (number_of k) refl e
   where
-    go : (o : Option ℕ) → number_of k ≡ o → negated_word o ≡ Some w → (v : ℕ) × (k ≡ kind.Number v) × (w ≡ (2 ^ 32 - v) % 2 ^ 32)
+    go : (o : Option ℕ) → number_of k ≡ o → negated o ≡ Some w → (v : ℕ) × (k ≡ kind.Number v) × (w ≡ (2 ^ 32 - v) % 2 ^ 32)
     go None q x = absurd (cc)
     go (Some v) q x = (v, kind_number k v q, let h : (2 ^ 32 - v) % 2 ^ 32 ≡ w = cc in sym h)
 
@@ -250,7 +253,7 @@ reads_negated n l p un.Neg w h e f =
       spelled = (bin_mark bin.Sub (offset_at l p) ∷ number_mark (offset_at l (p + 1)) v.0 ∷ [], operator_mark bin.Sub l p (kind_unary (stands l p) un.Neg e) ∙ ap (λ (x : List Mark). bin_mark bin.Sub (offset_at l p) ∷ x) second, (a_negated (offset_at l p) (offset_at l (p + 1)) v.0, tt, refl, ap (number (offset_at l p)) (sym v.2)));
     }
 
-no_number : (k : Kind) → negated_word (number_of k) ≡ None → is_number k ≡ false
+no_number : (k : Kind) → negated (number_of k) ≡ None → is_number k ≡ false
 no_number kind.Name x = refl
 no_number (kind.Number w) x = absurd (cc)
 no_number (kind.Fixed g) x = refl

@@ -15,10 +15,11 @@ use Rattle.dom_parser.specs.declared.kinds.Lead.{Lead}
 use Rattle.dom_parser.specs.declared.kinds.Lead.TheVariants as lead
 use Rattle.dom_parser.specs.declared.kinds.Declared.{Declared}
 use Rattle.dom_parser.specs.declared.kinds.Declared.TheVariants as declared
-use Rattle.dom_parser.specs.Tokens.{Mark, fixed_number, is_fixed, is_name, number_of, operator_of, unary_of, is_minus, number_first}
+use Rattle.dom_parser.specs.Tokens.{Mark, is_minus, number_first}
+use Rattle.dom_parser.specs.inner.AtPlace.{fixed_number, is_fixed, is_name, number_of, operator_of, unary_of}
 use Rattle.dom_parser.specs.Grammar.{top, sign, name_mark, number_mark}
-use Rattle.dom_parser.specs.Following as item
-use Rattle.dom_parser.specs.Following.{Item, expand, may_skip, resume, step, held, Trace, fine, stuck, count, on_step, trace, when, then_row, problem, Problem, bad, deep, limit}
+use Rattle.dom_parser.specs.inner.Following as item
+use Rattle.dom_parser.specs.inner.Following.{Item, expand, may_skip, resume, step, held, Trace, fine, stuck, count, on_step, trace, when, then_row, problem, Problem, bad, deep, limit}
 use Rattle.dom_parser.proofs.Traces.{counted, counted_append, Refused, Ends, ends_close, weaker, passes, ended_passes, goes}
 
 -- the least that an item stands for

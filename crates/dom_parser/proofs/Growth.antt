@@ -14,10 +14,11 @@ use Rattle.dom_parser.specs.declared.kinds.Lead.{Lead}
 use Rattle.dom_parser.specs.declared.kinds.Lead.TheVariants as lead
 use Rattle.dom_parser.specs.declared.kinds.Declared.{Declared}
 use Rattle.dom_parser.specs.declared.kinds.Declared.TheVariants as declared
-use Rattle.dom_parser.specs.Tokens.{is_fixed, is_name, number_of, operator_of, unary_of, is_minus}
+use Rattle.dom_parser.specs.inner.AtPlace.{is_fixed, is_name, number_of, operator_of, unary_of}
+use Rattle.dom_parser.specs.Tokens.{is_minus}
 use Rattle.dom_parser.specs.Grammar.{top}
-use Rattle.dom_parser.specs.Following as item
-use Rattle.dom_parser.specs.Following.{Item, when, then_row, ends, held, expand, may_skip, resume, step}
+use Rattle.dom_parser.specs.inner.Following as item
+use Rattle.dom_parser.specs.inner.Following.{Item, when, then_row, ends, held, expand, may_skip, resume, step}
 
 -- constructs in a row of items
 

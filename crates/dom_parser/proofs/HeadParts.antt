@@ -14,12 +14,14 @@ use Rattle.dom_parser.specs.declared.faults.Fault.TheVariants.{Unexpected, TooNe
 use Rattle.dom_parser.specs.declared.kinds.Fixed.TheVariants as fixed
 use Rattle.dom_parser.specs.declared.kinds.Declared.{Declared}
 use Rattle.dom_parser.specs.declared.kinds.Declared.TheVariants as declared
-use Rattle.dom_parser.specs.Tokens.{Mark, rest, stands, offset_at, text_at, is_fixed, is_name, number_of, ahead, is_minus}
+use Rattle.dom_parser.specs.Tokens.{Mark, stands, offset_at, ahead, is_minus}
+use Rattle.dom_parser.specs.inner.AtPlace.{rest, text_at, is_fixed, is_name, number_of}
 use Rattle.dom_parser.specs.Grammar.{sign, name_mark, number_mark, bin_mark, plain, negative, constant_tokens, constant_word, a_constant, a_name, value_tokens, no_start, bare, braced, start_tokens, start_tree, no_size, number_size, name_size, size_tokens, size_tree, a_define, a_global, decl_tokens, no_decls, then_decl, decls_tokens, decls_trees}
-use Rattle.dom_parser.specs.Following as item
-use Rattle.dom_parser.specs.Following.{Item, term, close, ended, when, then_row, number_row, constant_row, decl_row, declared_of, declares, expand, may_skip, held, limit, fault_from}
-use Rattle.dom_parser.specs.Reads.{FailsBy, Step, Reads, Passes}
-use Rattle.dom_parser.specs.HeadReads.{ReadsAny, FailsAny, SpellsConstant, SpellsValue, SpellsStart, SpellsStartPart, SpellsSize, SpellsSizePart, SpellsDecl, ReadsDecls, DeclsSoFar}
+use Rattle.dom_parser.specs.inner.Following as item
+use Rattle.dom_parser.specs.inner.Following.{Item, term, close, ended, when, then_row, number_row, constant_row, decl_row, declared_of, declares, expand, may_skip, held, limit, fault_from}
+use Rattle.dom_parser.specs.inner.Reads.{FailsBy, Step, Reads, Passes}
+use Rattle.dom_parser.specs.inner.HeadReads.{ReadsAny, FailsAny, SpellsConstant, SpellsValue, SpellsStart, SpellsStartPart, SpellsSize, SpellsSizePart, SpellsDecl, ReadsDecls}
+use Rattle.dom_parser.proofs.SoFar.{DeclsSoFar}
 use Rattle.dom_parser.proofs.KnownKinds.{kind_number, kind_minus, declared_define, declared_global}
 use Rattle.dom_parser.proofs.Steps.{skips, fails, first_of, same_row, row_none, row_one, row_here, row_later, row_read, row_failed, fails_here, fails_as, one_token, read_term, read_name, read_close, fails_term, fails_name, fails_close, fixed_mark, fixed_inside, sign_mark, named_mark, named_inside, numeral_mark, numeral_inside, operator_mark}
 

@@ -8,10 +8,11 @@ use Rattle.dom_ast.specs.Form.{ProgramForm}
 use Rattle.dom_parser.specs.declared.kinds.Kind.{Kind}
 use Rattle.dom_parser.specs.declared.kinds.Begin.{Begin}
 use Rattle.dom_parser.specs.declared.kinds.Fixed.TheVariants as fixed
-use Rattle.dom_parser.specs.Tokens.{Mark, mark, is_fixed, unary_of, is_number, number_first}
-use Rattle.dom_parser.specs.Grammar.{top, program_opens, Spells, IsViable}
-use Rattle.dom_parser.specs.Following as item
-use Rattle.dom_parser.specs.Following.{Item, ended, level, more, args, args_row, then_row, begin_of, begin_row, operand_row, level_row, is_neg, expand, may_skip, resume, step, held, Trace, fine, stuck, count, on_step, trace, limit, Problem, bad, deep, problem, whole}
+use Rattle.dom_parser.specs.Tokens.{Mark, mark, is_number, number_first}
+use Rattle.dom_parser.specs.inner.AtPlace.{is_fixed, unary_of}
+use Rattle.dom_parser.specs.Grammar.{top, program_opens, Spells, BeginProgram}
+use Rattle.dom_parser.specs.inner.Following as item
+use Rattle.dom_parser.specs.inner.Following.{Item, ended, level, more, args, args_row, then_row, begin_of, begin_row, operand_row, level_row, is_neg, expand, may_skip, resume, step, held, Trace, fine, stuck, count, on_step, trace, limit, Problem, bad, deep, problem, whole}
 use Rattle.dom_parser.proofs.Traces.{counted}
 use Rattle.dom_parser.proofs.Whole.{program_traced}
 
@@ -150,8 +151,8 @@ take_map (suc k) [] = refl
 take_map (suc k) (t ∷ l) = ap (λ (x : List Mark). mark t ∷ x) (take_map k l)
 
 -- no program begins with the tokens up to and with the one at p
-pub not_viable : (l : List Token) (p : ℕ) → problem 0 (trace whole (map mark l)) ≡ Some (bad p) → p < length l → IsViable (take (suc p) l) → ⊥
-not_viable l p e h v =
+pub begins_none : (l : List Token) (p : ℕ) → problem 0 (trace whole (map mark l)) ≡ Some (bad p) → p < length l → BeginProgram (take (suc p) l) → ⊥
+begins_none l p e h v =
     let none : 0 + p ≡ p = omega arith in
     let size = length-map l mark in
     let n = stays (map mark l) whole 0 p v.2 (e ∙ ap (λ (q : ℕ). Some (bad q)) (sym none)) (omega arith) in

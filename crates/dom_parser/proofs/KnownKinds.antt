@@ -13,9 +13,10 @@ use Rattle.dom_parser.specs.declared.kinds.Begin.TheVariants as begin
 use Rattle.dom_parser.specs.declared.kinds.Suffix.TheVariants as suffix
 use Rattle.dom_parser.specs.declared.kinds.Lead.TheVariants as lead
 use Rattle.dom_parser.specs.declared.kinds.Declared.TheVariants as declared
-use Rattle.dom_parser.specs.Tokens.{rank_of, fixed_number, is_fixed, is_name, number_of, operator_of, unary_of, is_minus}
+use Rattle.dom_parser.specs.Tokens.{rank_of, is_minus}
+use Rattle.dom_parser.specs.inner.AtPlace.{fixed_number, is_fixed, is_name, number_of, operator_of, unary_of}
 use Rattle.dom_parser.specs.Grammar.{un_kind}
-use Rattle.dom_parser.specs.Following.{begin_of, suffix_of, lead_of, declared_of}
+use Rattle.dom_parser.specs.inner.Following.{begin_of, suffix_of, lead_of, declared_of}
 
 abbrev fixed_with : ℕ → Fixed
 fixed_with zero = fixed.Struct

@@ -13,6 +13,7 @@ pub mod OneProgram
 pub mod OneStruct
 pub mod Programs
 pub mod Sizes
+pub mod SoFar
 pub mod SomeAnswer
 pub mod Steps
 pub mod Stmts

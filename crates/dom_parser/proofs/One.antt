@@ -6,11 +6,11 @@ use Rattle.dom_parser.specs.declared.kinds.Fixed.{Fixed}
 use Rattle.dom_parser.specs.declared.kinds.Fixed.TheVariants as fixed
 use Rattle.dom_parser.specs.declared.kinds.Kind.{Kind}
 use Rattle.dom_parser.specs.declared.kinds.Kind.TheVariants as kind
-use Rattle.dom_parser.specs.Tokens as Tokens
+use Rattle.dom_parser.specs.inner.AtPlace as AtPlace
 use Rattle.dom_parser.specs.Tokens.{Mark, rank_of, number_first}
 use Rattle.dom_parser.specs.Grammar.{top, sign, name_mark, un_kind, Way, a_number, a_negated, a_word, a_field, an_index, a_call, in_parens, operated, level_of, More, stop, and_then, if_so, Args, no_args, some_args, MoreArgs, last_arg, next_arg, IsAt, IsAfter, AreArgs, AreMoreArgs, tokens, more_tokens, arg_tokens, more_arg_tokens}
-use Rattle.dom_parser.specs.Following as item
-use Rattle.dom_parser.specs.Following.{Item, more, name_rest, level, expand}
+use Rattle.dom_parser.specs.inner.Following as item
+use Rattle.dom_parser.specs.inner.Following.{Item, more, name_rest, level, expand}
 use Rattle.dom_parser.proofs.Traces.{Refused, Ends, ends_close, ends_more, rank_row, no_number, ends_arg, first_token}
 
 -- the parts of a first token
@@ -46,7 +46,7 @@ number_of_kind (kind.Number w) = w
 number_of_kind _ = 0
 
 -- both in brackets
-pub in_both : (f : Fixed) (w w' : Way) (r r' : ℕ) (l l' : List Mark) → (Ends top (sign f r ∷ l) → Ends top (sign f r' ∷ l') → tokens w ++ sign f r ∷ l ≡ tokens w' ++ sign f r' ∷ l' → (w ≡ w') × (sign f r ∷ l ≡ sign f r' ∷ l')) → item.suffix_row (item.suffix_fixed f) ≡ None → Tokens.is_fixed fixed.Question (kind.Fixed f) ≡ false → (tokens w ++ sign f r ∷ []) ++ l ≡ (tokens w' ++ sign f r' ∷ []) ++ l' → (w ≡ w') × (r ≡ r') × (l ≡ l')
+pub in_both : (f : Fixed) (w w' : Way) (r r' : ℕ) (l l' : List Mark) → (Ends top (sign f r ∷ l) → Ends top (sign f r' ∷ l') → tokens w ++ sign f r ∷ l ≡ tokens w' ++ sign f r' ∷ l' → (w ≡ w') × (sign f r ∷ l ≡ sign f r' ∷ l')) → item.suffix_row (item.suffix_fixed f) ≡ None → AtPlace.is_fixed fixed.Question (kind.Fixed f) ≡ false → (tokens w ++ sign f r ∷ []) ++ l ≡ (tokens w' ++ sign f r' ∷ []) ++ l' → (w ≡ w') × (r ≡ r') × (l ≡ l')
 in_both f w w' r r' l l' one a b e =
     let g = one (ends_close f top r l a b) (ends_close f top r' l' a b) (sym (append_assoc (tokens w) (sign f r ∷ []) l) ∙ e ∙ append_assoc (tokens w') (sign f r' ∷ []) l') in
     (g.0, ap place_first g.1, ap others g.1)
@@ -60,7 +60,7 @@ no_close : (w : Way) → IsAt top w → (b c l : List Mark) (r : ℕ) (m : List 
 no_close w a b c l r m e =
     let f = first_token top w a in
     let g : kind.Fixed fixed.CloseParen ≡ f.0.kind = ap kind_first (e ∙ ap (λ (x : List Mark). ((x ++ b) ++ c) ++ l) f.2) in
-    let h : true ≡ Tokens.is_fixed fixed.CloseParen f.0.kind = ap (Tokens.is_fixed fixed.CloseParen) g in
+    let h : true ≡ AtPlace.is_fixed fixed.CloseParen f.0.kind = ap (AtPlace.is_fixed fixed.CloseParen) g in
     let i = f.3 in absurd (cc)
 
 dot_bracket : (a b : Mark) (x y : ℕ) (l m : List Mark) → a ∷ sign fixed.Dot x ∷ l ≡ b ∷ sign fixed.OpenBracket y ∷ m → ⊥

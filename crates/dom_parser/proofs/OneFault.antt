@@ -8,7 +8,7 @@ use Rattle.dom_parser.specs.declared.faults.Fault.TheVariants as place
 use Rattle.dom_parser.specs.declared.faults.ParseFault.{ParseFault}
 use Rattle.dom_parser.specs.declared.faults.ParseFault.TheVariants as answer
 use Rattle.dom_parser.specs.Tokens.{Mark, mark, stands, is_number, number_first}
-use Rattle.dom_parser.specs.Grammar.{IsViable, program_opens}
+use Rattle.dom_parser.specs.Grammar.{BeginProgram, program_opens}
 use Rattle.dom_parser.specs.Faults.{located_at, BeginsWith, IsFirstOver, OpensTooMany, RulesOut, Rules, IsFirstFault}
 
 -- what begins with q tokens begins with fewer; what comes next is then the next of them
@@ -20,13 +20,13 @@ front_less (suc k) zero l rest h = absurd (omega arith)
 front_less (suc k) (suc q) [] rest h = (rest, refl, λ a b. absurd (omega arith))
 front_less (suc k) (suc q) (t ∷ l) rest h = let f = front_less k q l rest (omega arith) in (f.0, ap (λ (x : List Mark). mark t ∷ x) f.1, λ a b. f.2 (omega arith) (omega arith))
 
-viable_less : (l : List Token) (k q : ℕ) → k ≤ q → IsViable (take q l) → IsViable (take k l)
-viable_less l k q h v = let f = front_less k q l v.2 h in (v.0, v.1, f.0, v.3 ∙ f.1)
+begins_less : (l : List Token) (k q : ℕ) → k ≤ q → BeginProgram (take q l) → BeginProgram (take k l)
+begins_less l k q h v = let f = front_less k q l v.2 h in (v.0, v.1, f.0, v.3 ∙ f.1)
 
 -- one place of each kind, and none of both
 
 two_bad : (l : List Token) (p q : ℕ) → p < q → RulesOut l p → RulesOut l q → ⊥
-two_bad l p q h a b = let w = b.there in a.with_it (omega arith) (viable_less l (suc p) q (omega arith) b.before)
+two_bad l p q h a b = let w = b.there in a.with_it (omega arith) (begins_less l (suc p) q (omega arith) b.before)
 
 bad_and_deep : (l : List Token) (p q : ℕ) → RulesOut l p → OpensTooMany l q → ⊥
 bad_and_deep l p q a o = go (nat_le p q) refl
@@ -34,7 +34,7 @@ bad_and_deep l p q a o = go (nat_le p q) refl
     go : (b : Bool) → nat_le p q ≡ b → ⊥
     go true e =
         let h = leb-true p q e in let w = o.there in let b = o.some.1 in
-        a.with_it (omega arith) (viable_less l (suc p) (suc q) (omega arith) (o.some.0, b.is_program, b.rest, b.front))
+        a.with_it (omega arith) (begins_less l (suc p) (suc q) (omega arith) (o.some.0, b.is_program, b.rest, b.front))
     go false e = a.within q (leb-false p q e) o
 
 apart : (p q : ℕ) (ns : List ℕ) → p < q → IsFirstOver p ns → IsFirstOver q ns → ⊥

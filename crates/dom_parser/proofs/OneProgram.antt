@@ -5,33 +5,33 @@ use Rattle.dom_ast.specs.Form.{ProgramForm}
 use Rattle.dom_parser.specs.declared.kinds.Fixed.{Fixed}
 use Rattle.dom_parser.specs.declared.kinds.Fixed.TheVariants as fixed
 use Rattle.dom_parser.specs.declared.kinds.Kind.TheVariants as kind
-use Rattle.dom_parser.specs.Tokens as Tokens
+use Rattle.dom_parser.specs.inner.AtPlace as AtPlace
 use Rattle.dom_parser.specs.Tokens.{Mark, mark}
-use Rattle.dom_parser.specs.Grammar.{top, sign, name_mark, Way, IsAt, tokens, Goal, goal_word, goal_field, goal_index, IsGoal, goal_tokens, Assign, assigned, IsAssign, assign_tokens, Stmts, no_more, then_stmt, Stmt, an_assign, an_if, Body, body_block, body_assign, Else, no_else, else_block, else_stmt, AreStmts, IsStmt, IsBody, IsElse, stmts_tokens, stmt_tokens, body_tokens, else_tokens, Constant, plain, negative, constant_tokens, Value, a_constant, a_name, value_tokens, Start, no_start, bare, braced, start_tokens, Size, no_size, number_size, name_size, size_tokens, Decl, a_define, a_global, decl_tokens, Decls, no_decls, then_decl, decls_tokens, Fields, no_fields, a_field_of, field_tokens, Structure, a_struct, struct_tokens, Guard, no_guard, a_guard, IsGuard, guard_tokens, Transaction, a_transaction, IsTransaction, transaction_tokens, Transactions, no_others, another, AreTransactions, transactions_tokens, Program, program, IsProgram, program_tokens, program_tree, Spells}
-use Rattle.dom_parser.specs.Following as item
-use Rattle.dom_parser.specs.Following.{Item, level}
+use Rattle.dom_parser.specs.Grammar.{top, sign, name_mark, Way, IsAt, tokens, TargetWay, target_word, target_field, target_index, IsTarget, target_tokens, Assign, assigned, IsAssign, assign_tokens, Stmts, no_more, then_stmt, Stmt, an_assign, an_if, Body, body_block, body_assign, Else, no_else, else_block, else_stmt, AreStmts, IsStmt, IsBody, IsElse, stmts_tokens, stmt_tokens, body_tokens, else_tokens, Constant, plain, negative, constant_tokens, Value, a_constant, a_name, value_tokens, Start, no_start, bare, braced, start_tokens, Size, no_size, number_size, name_size, size_tokens, Decl, a_define, a_global, decl_tokens, Decls, no_decls, then_decl, decls_tokens, Fields, no_fields, a_field_of, field_tokens, Structure, a_struct, struct_tokens, Guard, no_guard, a_guard, IsGuard, guard_tokens, Transaction, a_transaction, IsTransaction, transaction_tokens, Transactions, no_others, another, AreTransactions, transactions_tokens, Program, program, IsProgram, program_tokens, program_tree, Spells}
+use Rattle.dom_parser.specs.inner.Following as item
+use Rattle.dom_parser.specs.inner.Following.{Item, level}
 use Rattle.dom_parser.proofs.Traces.{Refused}
 use Rattle.dom_parser.proofs.Whole.{starts_ok, struct_first, transaction_first}
 use Rattle.dom_parser.proofs.One.{kind_first, place_first, text_first, others, number_of_kind, one_way, in_both}
 
 -- an expression and the symbol after it
-one_in : (f : Fixed) (w w' : Way) (r r' : ℕ) (l l' : List Mark) → IsAt top w → IsAt top w' → item.suffix_row (item.suffix_fixed f) ≡ None → Tokens.is_fixed fixed.Question (kind.Fixed f) ≡ false → (tokens w ++ sign f r ∷ []) ++ l ≡ (tokens w' ++ sign f r' ∷ []) ++ l' → (w ≡ w') × (r ≡ r') × (l ≡ l')
+one_in : (f : Fixed) (w w' : Way) (r r' : ℕ) (l l' : List Mark) → IsAt top w → IsAt top w' → item.suffix_row (item.suffix_fixed f) ≡ None → AtPlace.is_fixed fixed.Question (kind.Fixed f) ≡ false → (tokens w ++ sign f r ∷ []) ++ l ≡ (tokens w' ++ sign f r' ∷ []) ++ l' → (w ≡ w') × (r ≡ r') × (l ≡ l')
 one_in f w w' r r' l l' h h' a b e = in_both f w w' r r' l l' (λ x y z. one_way top w w' (sign f r ∷ l) (sign f r' ∷ l') h h' x y z) a b e
 
-one_goal : (g g' : Goal) (p p' : ℕ) (l l' : List Mark) → IsGoal g → IsGoal g' → goal_tokens g ++ sign fixed.Assign p ∷ l ≡ goal_tokens g' ++ sign fixed.Assign p' ∷ l' → (g ≡ g') × (p ≡ p') × (l ≡ l')
-one_goal (goal_word x n) (goal_word x' n') p p' l l' h h' e = let u = ap others e in (ap (λ z. goal_word z n) (ap place_first e) ∙ ap (goal_word x') (ap text_first e), ap place_first u, ap others u)
-one_goal (goal_word x n) (goal_field x' n' y' r' f') p p' l l' h h' e = absurd (let f = ap kind_first (ap others e) in cc)
-one_goal (goal_word x n) (goal_index x' n' y' w' r') p p' l l' h h' e = absurd (let f = ap kind_first (ap others e) in cc)
-one_goal (goal_field x n y r f) (goal_word x' n') p p' l l' h h' e = absurd (let f = ap kind_first (ap others e) in cc)
-one_goal (goal_field x n y r f) (goal_field x' n' y' r' f') p p' l l' h h' e = let u = ap others e in let v = ap others u in let w = ap others v in (ap (λ z. goal_field z n y r f) (ap place_first e) ∙ ap (λ z. goal_field x' z y r f) (ap text_first e) ∙ ap (λ z. goal_field x' n' z r f) (ap place_first u) ∙ ap (λ z. goal_field x' n' y' z f) (ap place_first v) ∙ ap (goal_field x' n' y' r') (ap text_first v), ap place_first w, ap others w)
-one_goal (goal_field x n y r f) (goal_index x' n' y' w' r') p p' l l' h h' e = absurd (let f = ap kind_first (ap others e) in cc)
-one_goal (goal_index x n y w r) (goal_word x' n') p p' l l' h h' e = absurd (let f = ap kind_first (ap others e) in cc)
-one_goal (goal_index x n y w r) (goal_field x' n' y' r' f') p p' l l' h h' e = absurd (let f = ap kind_first (ap others e) in cc)
-one_goal (goal_index x n y w r) (goal_index x' n' y' w' r') p p' l l' h h' e = let u = ap others e in let g = one_in fixed.CloseBracket w w' r r' (sign fixed.Assign p ∷ l) (sign fixed.Assign p' ∷ l') h h' refl refl (ap others u) in (ap (λ z. goal_index z n y w r) (ap place_first e) ∙ ap (λ z. goal_index x' z y w r) (ap text_first e) ∙ ap (λ z. goal_index x' n' z w r) (ap place_first u) ∙ ap (λ z. goal_index x' n' y' z r) g.0 ∙ ap (goal_index x' n' y' w') g.1, ap place_first g.2, ap others g.2)
+one_target : (g g' : TargetWay) (p p' : ℕ) (l l' : List Mark) → IsTarget g → IsTarget g' → target_tokens g ++ sign fixed.Assign p ∷ l ≡ target_tokens g' ++ sign fixed.Assign p' ∷ l' → (g ≡ g') × (p ≡ p') × (l ≡ l')
+one_target (target_word x n) (target_word x' n') p p' l l' h h' e = let u = ap others e in (ap (λ z. target_word z n) (ap place_first e) ∙ ap (target_word x') (ap text_first e), ap place_first u, ap others u)
+one_target (target_word x n) (target_field x' n' y' r' f') p p' l l' h h' e = absurd (let f = ap kind_first (ap others e) in cc)
+one_target (target_word x n) (target_index x' n' y' w' r') p p' l l' h h' e = absurd (let f = ap kind_first (ap others e) in cc)
+one_target (target_field x n y r f) (target_word x' n') p p' l l' h h' e = absurd (let f = ap kind_first (ap others e) in cc)
+one_target (target_field x n y r f) (target_field x' n' y' r' f') p p' l l' h h' e = let u = ap others e in let v = ap others u in let w = ap others v in (ap (λ z. target_field z n y r f) (ap place_first e) ∙ ap (λ z. target_field x' z y r f) (ap text_first e) ∙ ap (λ z. target_field x' n' z r f) (ap place_first u) ∙ ap (λ z. target_field x' n' y' z f) (ap place_first v) ∙ ap (target_field x' n' y' r') (ap text_first v), ap place_first w, ap others w)
+one_target (target_field x n y r f) (target_index x' n' y' w' r') p p' l l' h h' e = absurd (let f = ap kind_first (ap others e) in cc)
+one_target (target_index x n y w r) (target_word x' n') p p' l l' h h' e = absurd (let f = ap kind_first (ap others e) in cc)
+one_target (target_index x n y w r) (target_field x' n' y' r' f') p p' l l' h h' e = absurd (let f = ap kind_first (ap others e) in cc)
+one_target (target_index x n y w r) (target_index x' n' y' w' r') p p' l l' h h' e = let u = ap others e in let g = one_in fixed.CloseBracket w w' r r' (sign fixed.Assign p ∷ l) (sign fixed.Assign p' ∷ l') h h' refl refl (ap others u) in (ap (λ z. target_index z n y w r) (ap place_first e) ∙ ap (λ z. target_index x' z y w r) (ap text_first e) ∙ ap (λ z. target_index x' n' z w r) (ap place_first u) ∙ ap (λ z. target_index x' n' y' z r) g.0 ∙ ap (target_index x' n' y' w') g.1, ap place_first g.2, ap others g.2)
 
 one_assign : (a a' : Assign) (l l' : List Mark) → IsAssign a → IsAssign a' → assign_tokens a ++ l ≡ assign_tokens a' ++ l' → (a ≡ a') × (l ≡ l')
 one_assign (assigned g p w q) (assigned g' p' w' q') l l' h h' e =
-    let f = one_goal g g' p p' ((tokens w ++ sign fixed.Semi q ∷ []) ++ l) ((tokens w' ++ sign fixed.Semi q' ∷ []) ++ l') h.0 h'.0 (sym (append_assoc (goal_tokens g) (sign fixed.Assign p ∷ (tokens w ++ sign fixed.Semi q ∷ [])) l) ∙ e ∙ append_assoc (goal_tokens g') (sign fixed.Assign p' ∷ (tokens w' ++ sign fixed.Semi q' ∷ [])) l') in
+    let f = one_target g g' p p' ((tokens w ++ sign fixed.Semi q ∷ []) ++ l) ((tokens w' ++ sign fixed.Semi q' ∷ []) ++ l') h.0 h'.0 (sym (append_assoc (target_tokens g) (sign fixed.Assign p ∷ (tokens w ++ sign fixed.Semi q ∷ [])) l) ∙ e ∙ append_assoc (target_tokens g') (sign fixed.Assign p' ∷ (tokens w' ++ sign fixed.Semi q' ∷ [])) l') in
     let k = one_in fixed.Semi w w' q q' l l' h.1 h'.1 refl refl f.2 in
     (ap (λ z. assigned z p w q) f.0 ∙ ap (λ z. assigned g' z w q) f.1 ∙ ap (λ z. assigned g' p' z q) k.0 ∙ ap (assigned g' p' w') k.1, k.2)
 
@@ -56,13 +56,13 @@ regroup a z k l = append_assoc (stmt_tokens a ++ stmts_tokens z) (sign fixed.Clo
 mutual
   one_stmts : (b b' : Stmts) (q q' : ℕ) (l l' : List Mark) → AreStmts b → AreStmts b' → (stmts_tokens b ++ sign fixed.CloseBrace q ∷ []) ++ l ≡ (stmts_tokens b' ++ sign fixed.CloseBrace q' ∷ []) ++ l' → (b ≡ b') × (q ≡ q') × (l ≡ l')
   one_stmts no_more no_more k k' l l' h h' e = (refl, ap place_first e, ap others e)
-  one_stmts no_more (then_stmt (an_assign (assigned (goal_word x' n') u' v' y')) z') k k' l l' h h' e = absurd (apart_name fixed.CloseBrace x' n' k _ _ (sym e))
-  one_stmts no_more (then_stmt (an_assign (assigned (goal_field x' n' b' r' f') u' v' y')) z') k k' l l' h h' e = absurd (apart_name fixed.CloseBrace x' n' k _ _ (sym e))
-  one_stmts no_more (then_stmt (an_assign (assigned (goal_index x' n' b' w' r') u' v' y')) z') k k' l l' h h' e = absurd (apart_name fixed.CloseBrace x' n' k _ _ (sym e))
+  one_stmts no_more (then_stmt (an_assign (assigned (target_word x' n') u' v' y')) z') k k' l l' h h' e = absurd (apart_name fixed.CloseBrace x' n' k _ _ (sym e))
+  one_stmts no_more (then_stmt (an_assign (assigned (target_field x' n' b' r' f') u' v' y')) z') k k' l l' h h' e = absurd (apart_name fixed.CloseBrace x' n' k _ _ (sym e))
+  one_stmts no_more (then_stmt (an_assign (assigned (target_index x' n' b' w' r') u' v' y')) z') k k' l l' h h' e = absurd (apart_name fixed.CloseBrace x' n' k _ _ (sym e))
   one_stmts no_more (then_stmt (an_if p' q' w' r' b' c') z') k k' l l' h h' e = absurd (close_if k p' _ _ e)
-  one_stmts (then_stmt (an_assign (assigned (goal_word x n) u v y)) z) no_more k k' l l' h h' e = absurd (apart_name fixed.CloseBrace x n k' _ _ e)
-  one_stmts (then_stmt (an_assign (assigned (goal_field x n b r f) u v y)) z) no_more k k' l l' h h' e = absurd (apart_name fixed.CloseBrace x n k' _ _ e)
-  one_stmts (then_stmt (an_assign (assigned (goal_index x n b w r) u v y)) z) no_more k k' l l' h h' e = absurd (apart_name fixed.CloseBrace x n k' _ _ e)
+  one_stmts (then_stmt (an_assign (assigned (target_word x n) u v y)) z) no_more k k' l l' h h' e = absurd (apart_name fixed.CloseBrace x n k' _ _ e)
+  one_stmts (then_stmt (an_assign (assigned (target_field x n b r f) u v y)) z) no_more k k' l l' h h' e = absurd (apart_name fixed.CloseBrace x n k' _ _ e)
+  one_stmts (then_stmt (an_assign (assigned (target_index x n b w r) u v y)) z) no_more k k' l l' h h' e = absurd (apart_name fixed.CloseBrace x n k' _ _ e)
   one_stmts (then_stmt (an_if p q w r b c) z) no_more k k' l l' h h' e = absurd (close_if k' p _ _ (sym e))
   one_stmts (then_stmt a z) (then_stmt a' z') k k' l l' h h' e =
       let f = one_stmt a a' ((stmts_tokens z ++ sign fixed.CloseBrace k ∷ []) ++ l) ((stmts_tokens z' ++ sign fixed.CloseBrace k' ∷ []) ++ l') h.0 h'.0 (starts_ok z k l) (starts_ok z' k' l') (sym (regroup a z k l) ∙ e ∙ regroup a' z' k' l') in
@@ -71,12 +71,12 @@ mutual
 
   one_stmt : (a a' : Stmt) (l l' : List Mark) → IsStmt a → IsStmt a' → Refused item.else_part l → Refused item.else_part l' → stmt_tokens a ++ l ≡ stmt_tokens a' ++ l' → (a ≡ a') × (l ≡ l')
   one_stmt (an_assign a) (an_assign a') l l' h h' d d' e = let f = one_assign a a' l l' h h' e in (ap an_assign f.0, f.1)
-  one_stmt (an_assign (assigned (goal_word x n) u v y)) (an_if p' q' w' r' b' c') l l' h h' d d' e = absurd (apart_name fixed.If x n p' _ _ e)
-  one_stmt (an_assign (assigned (goal_field x n b r f) u v y)) (an_if p' q' w' r' b' c') l l' h h' d d' e = absurd (apart_name fixed.If x n p' _ _ e)
-  one_stmt (an_assign (assigned (goal_index x n b w r) u v y)) (an_if p' q' w' r' b' c') l l' h h' d d' e = absurd (apart_name fixed.If x n p' _ _ e)
-  one_stmt (an_if p q w r b c) (an_assign (assigned (goal_word x' n') u' v' y')) l l' h h' d d' e = absurd (apart_name fixed.If x' n' p _ _ (sym e))
-  one_stmt (an_if p q w r b c) (an_assign (assigned (goal_field x' n' b' r' f') u' v' y')) l l' h h' d d' e = absurd (apart_name fixed.If x' n' p _ _ (sym e))
-  one_stmt (an_if p q w r b c) (an_assign (assigned (goal_index x' n' b' w' r') u' v' y')) l l' h h' d d' e = absurd (apart_name fixed.If x' n' p _ _ (sym e))
+  one_stmt (an_assign (assigned (target_word x n) u v y)) (an_if p' q' w' r' b' c') l l' h h' d d' e = absurd (apart_name fixed.If x n p' _ _ e)
+  one_stmt (an_assign (assigned (target_field x n b r f) u v y)) (an_if p' q' w' r' b' c') l l' h h' d d' e = absurd (apart_name fixed.If x n p' _ _ e)
+  one_stmt (an_assign (assigned (target_index x n b w r) u v y)) (an_if p' q' w' r' b' c') l l' h h' d d' e = absurd (apart_name fixed.If x n p' _ _ e)
+  one_stmt (an_if p q w r b c) (an_assign (assigned (target_word x' n') u' v' y')) l l' h h' d d' e = absurd (apart_name fixed.If x' n' p _ _ (sym e))
+  one_stmt (an_if p q w r b c) (an_assign (assigned (target_field x' n' b' r' f') u' v' y')) l l' h h' d d' e = absurd (apart_name fixed.If x' n' p _ _ (sym e))
+  one_stmt (an_if p q w r b c) (an_assign (assigned (target_index x' n' b' w' r') u' v' y')) l l' h h' d d' e = absurd (apart_name fixed.If x' n' p _ _ (sym e))
   one_stmt (an_if p q w r b c) (an_if p' q' w' r' b' c') l l' h h' d d' e =
       let u = ap others e in
       let f = one_in fixed.CloseParen w w' r r' ((body_tokens b ++ else_tokens c) ++ l) ((body_tokens b' ++ else_tokens c') ++ l') h.0 h'.0 refl refl (sym (split_paren w r (body_tokens b ++ else_tokens c) l) ∙ ap others u ∙ split_paren w' r' (body_tokens b' ++ else_tokens c') l') in
@@ -88,12 +88,12 @@ mutual
   one_body (body_block p s q) (body_block p' s' q') l l' h h' e =
       let f = one_stmts s s' q q' l l' h h' (ap others e) in (ap (λ y. body_block y s q) (ap place_first e) ∙ ap (λ y. body_block p' y q) f.0 ∙ ap (body_block p' s') f.1, f.2)
   one_body (body_assign a) (body_assign a') l l' h h' e = let f = one_assign a a' l l' h h' e in (ap body_assign f.0, f.1)
-  one_body (body_block p s q) (body_assign (assigned (goal_word x' n') u' v' y')) l l' h h' e = absurd (apart_name fixed.OpenBrace x' n' p _ _ (sym e))
-  one_body (body_block p s q) (body_assign (assigned (goal_field x' n' b' r' f') u' v' y')) l l' h h' e = absurd (apart_name fixed.OpenBrace x' n' p _ _ (sym e))
-  one_body (body_block p s q) (body_assign (assigned (goal_index x' n' b' w' r') u' v' y')) l l' h h' e = absurd (apart_name fixed.OpenBrace x' n' p _ _ (sym e))
-  one_body (body_assign (assigned (goal_word x n) u v y)) (body_block p' s' q') l l' h h' e = absurd (apart_name fixed.OpenBrace x n p' _ _ e)
-  one_body (body_assign (assigned (goal_field x n b r f) u v y)) (body_block p' s' q') l l' h h' e = absurd (apart_name fixed.OpenBrace x n p' _ _ e)
-  one_body (body_assign (assigned (goal_index x n b w r) u v y)) (body_block p' s' q') l l' h h' e = absurd (apart_name fixed.OpenBrace x n p' _ _ e)
+  one_body (body_block p s q) (body_assign (assigned (target_word x' n') u' v' y')) l l' h h' e = absurd (apart_name fixed.OpenBrace x' n' p _ _ (sym e))
+  one_body (body_block p s q) (body_assign (assigned (target_field x' n' b' r' f') u' v' y')) l l' h h' e = absurd (apart_name fixed.OpenBrace x' n' p _ _ (sym e))
+  one_body (body_block p s q) (body_assign (assigned (target_index x' n' b' w' r') u' v' y')) l l' h h' e = absurd (apart_name fixed.OpenBrace x' n' p _ _ (sym e))
+  one_body (body_assign (assigned (target_word x n) u v y)) (body_block p' s' q') l l' h h' e = absurd (apart_name fixed.OpenBrace x n p' _ _ e)
+  one_body (body_assign (assigned (target_field x n b r f) u v y)) (body_block p' s' q') l l' h h' e = absurd (apart_name fixed.OpenBrace x n p' _ _ e)
+  one_body (body_assign (assigned (target_index x n b w r) u v y)) (body_block p' s' q') l l' h h' e = absurd (apart_name fixed.OpenBrace x n p' _ _ e)
 
   one_else : (c c' : Else) (l l' : List Mark) → IsElse c → IsElse c' → Refused item.else_part l → Refused item.else_part l' → else_tokens c ++ l ≡ else_tokens c' ++ l' → (c ≡ c') × (l ≡ l')
   one_else no_else no_else l l' h h' d d' e = (refl, e)
@@ -107,13 +107,13 @@ mutual
       (ap (λ y. else_block y o s k) (ap place_first e) ∙ ap (λ y. else_block p' y s k) (ap place_first u) ∙ ap (λ y. else_block p' o' y k) f.0 ∙ ap (else_block p' o' s') f.1, f.2)
   one_else (else_stmt p a) (else_stmt p' a') l l' h h' d d' e =
       let f = one_stmt a a' l l' h h' d d' (ap others e) in (ap (λ y. else_stmt y a) (ap place_first e) ∙ ap (else_stmt p') f.0, f.1)
-  one_else (else_block o i s k) (else_stmt o' (an_assign (assigned (goal_word x' n') u' v' y'))) l l' h h' d d' e = absurd (apart_name fixed.OpenBrace x' n' i _ _ (sym (ap others e)))
-  one_else (else_block o i s k) (else_stmt o' (an_assign (assigned (goal_field x' n' b' r' f') u' v' y'))) l l' h h' d d' e = absurd (apart_name fixed.OpenBrace x' n' i _ _ (sym (ap others e)))
-  one_else (else_block o i s k) (else_stmt o' (an_assign (assigned (goal_index x' n' b' w' r') u' v' y'))) l l' h h' d d' e = absurd (apart_name fixed.OpenBrace x' n' i _ _ (sym (ap others e)))
+  one_else (else_block o i s k) (else_stmt o' (an_assign (assigned (target_word x' n') u' v' y'))) l l' h h' d d' e = absurd (apart_name fixed.OpenBrace x' n' i _ _ (sym (ap others e)))
+  one_else (else_block o i s k) (else_stmt o' (an_assign (assigned (target_field x' n' b' r' f') u' v' y'))) l l' h h' d d' e = absurd (apart_name fixed.OpenBrace x' n' i _ _ (sym (ap others e)))
+  one_else (else_block o i s k) (else_stmt o' (an_assign (assigned (target_index x' n' b' w' r') u' v' y'))) l l' h h' d d' e = absurd (apart_name fixed.OpenBrace x' n' i _ _ (sym (ap others e)))
   one_else (else_block o i s k) (else_stmt o' (an_if p' q' w' r' b' c')) l l' h h' d d' e = absurd (brace_if i p' _ _ (ap others e))
-  one_else (else_stmt o (an_assign (assigned (goal_word x n) u v y))) (else_block o' i' s' k') l l' h h' d d' e = absurd (apart_name fixed.OpenBrace x n i' _ _ (ap others e))
-  one_else (else_stmt o (an_assign (assigned (goal_field x n b r f) u v y))) (else_block o' i' s' k') l l' h h' d d' e = absurd (apart_name fixed.OpenBrace x n i' _ _ (ap others e))
-  one_else (else_stmt o (an_assign (assigned (goal_index x n b w r) u v y))) (else_block o' i' s' k') l l' h h' d d' e = absurd (apart_name fixed.OpenBrace x n i' _ _ (ap others e))
+  one_else (else_stmt o (an_assign (assigned (target_word x n) u v y))) (else_block o' i' s' k') l l' h h' d d' e = absurd (apart_name fixed.OpenBrace x n i' _ _ (ap others e))
+  one_else (else_stmt o (an_assign (assigned (target_field x n b r f) u v y))) (else_block o' i' s' k') l l' h h' d d' e = absurd (apart_name fixed.OpenBrace x n i' _ _ (ap others e))
+  one_else (else_stmt o (an_assign (assigned (target_index x n b w r) u v y))) (else_block o' i' s' k') l l' h h' d d' e = absurd (apart_name fixed.OpenBrace x n i' _ _ (ap others e))
   one_else (else_stmt o (an_if p q w r b c)) (else_block o' i' s' k') l l' h h' d d' e = absurd (brace_if i' p _ _ (sym (ap others e)))
 
 -- heads

@@ -7,7 +7,7 @@ use Rattle.dom_lexer.specs.declared.token.Token.{Token}
 use Rattle.dom_ast.specs.declared.program.Head.{Head}
 use Rattle.dom_ast.specs.CheckedForm.{has_field, has_one_struct, is_struct}
 use Rattle.dom_ast.specs.Form.{ProgramForm}
-use Rattle.dom_parser.specs.Grammar.{IsSpelled, Decls, no_decls, then_decl, a_define, a_global, decls_trees, Structure, a_struct, struct_tree, Program, program, program_tree}
+use Rattle.dom_parser.specs.Grammar.{SpellsWithin, Decls, no_decls, then_decl, a_define, a_global, decls_trees, Structure, a_struct, struct_tree, Program, program, program_tree}
 
 -- the structs among heads
 structs : List Head → ℕ
@@ -58,5 +58,5 @@ all_in d (a_struct p q n o i r m t f c b) e = fields_after d (struct_tree (a_str
 way_struct : (way : Program) → has_one_struct (program_tree way).heads ≡ true
 way_struct (program d s e t ts) = ap (λ n. nat_eq n 1 && list_all has_field (decls_trees d ++ struct_tree s ∷ decls_trees e)) (one_in d s e) ∙ all_in d s e
 
-pub spelled_struct : (p : ProgramForm) (l : List Token) → IsSpelled p l → has_one_struct p.heads ≡ true
+pub spelled_struct : (p : ProgramForm) (l : List Token) → SpellsWithin p l → has_one_struct p.heads ≡ true
 spelled_struct p l (way, is_program, tokens, tree, within) = ap (λ (f : ProgramForm). has_one_struct f.heads) (sym tree) ∙ way_struct way

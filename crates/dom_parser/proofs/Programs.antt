@@ -6,12 +6,14 @@ use Rattle.dom_ast.specs.declared.program.Head.TheVariants as head
 use Rattle.dom_parser.specs.declared.faults.Fault.{Fault}
 use Rattle.dom_parser.specs.declared.faults.Fault.TheVariants.{Unexpected, TooNested, Memory}
 use Rattle.dom_parser.specs.declared.kinds.Fixed.TheVariants as fixed
-use Rattle.dom_parser.specs.Tokens.{Mark, rest, stands, offset_at, text_at, is_fixed, is_name, ahead}
+use Rattle.dom_parser.specs.Tokens.{Mark, stands, offset_at, ahead}
+use Rattle.dom_parser.specs.inner.AtPlace.{rest, text_at, is_fixed, is_name}
 use Rattle.dom_parser.specs.Grammar.{sign, name_mark, no_fields, a_field_of, field_tokens, field_trees, a_struct, struct_tokens}
-use Rattle.dom_parser.specs.Following as item
-use Rattle.dom_parser.specs.Following.{Item, term, close, ended, when, expand, may_skip, held, limit, bad, deep, fault_from}
-use Rattle.dom_parser.specs.Reads.{FailsBy, Step, Reads}
-use Rattle.dom_parser.specs.HeadReads.{ReadsField, FailsField, ReadsFields, FieldsSoFar, SpellsStruct}
+use Rattle.dom_parser.specs.inner.Following as item
+use Rattle.dom_parser.specs.inner.Following.{Item, term, close, ended, when, expand, may_skip, held, limit, bad, deep, fault_from}
+use Rattle.dom_parser.specs.inner.Reads.{FailsBy, Step, Reads}
+use Rattle.dom_parser.specs.inner.HeadReads.{ReadsField, FailsField, ReadsFields, SpellsStruct}
+use Rattle.dom_parser.proofs.SoFar.{FieldsSoFar}
 use Rattle.dom_parser.proofs.Steps.{skips, fails, takes, row_none, row_one, row_here, row_later, row_read, row_failed, fails_here, read_term, read_name, read_close, fails_term, fails_name, fixed_mark, fixed_inside, named_mark}
 use Rattle.dom_parser.proofs.HeadParts.{step_to, mark_to}
 

@@ -7,7 +7,7 @@ use Rattle.dom_ast.specs.Size.{expr_nodes, exprs_nodes, ops_nodes, target_nodes,
 use Rattle.dom_words.specs.declared.operators.BinOp.{BinOp}
 use Rattle.dom_parser.specs.declared.kinds.Fixed.TheVariants as fixed
 use Rattle.dom_parser.specs.Tokens.{Mark, mark}
-use Rattle.dom_parser.specs.Grammar.{sign, Way, a_number, a_negated, a_word, a_field, an_index, a_call, in_parens, operated, level_of, More, stop, and_then, if_so, Args, no_args, some_args, MoreArgs, last_arg, next_arg, tokens, more_tokens, arg_tokens, more_arg_tokens, Tail, ops, choose, joined, and_op, tree, more_trees, arg_trees, more_arg_trees, opens, Goal, goal_word, goal_field, goal_index, goal_tokens, goal_tree, Assign, assigned, assign_tokens, assign_tree, Stmts, no_more, then_stmt, Stmt, an_assign, an_if, Body, body_block, body_assign, Else, no_else, else_block, else_stmt, stmts_tokens, stmt_tokens, body_tokens, else_tokens, stmts_trees, stmt_tree, body_tree, else_tree, stmts_opens, stmt_opens, body_opens, else_opens, Guard, no_guard, a_guard, guard_tokens, guard_tree, guard_opens, Transaction, a_transaction, transaction_tokens, transaction_tree, transaction_opens, Transactions, no_others, another, transactions_tokens, transaction_trees, transactions_opens, decls_tokens, struct_tokens, decls_opens, struct_opens, Program, program, program_tokens, program_tree, program_opens, AreWithin, IsSpelled}
+use Rattle.dom_parser.specs.Grammar.{sign, Way, a_number, a_negated, a_word, a_field, an_index, a_call, in_parens, operated, level_of, More, stop, and_then, if_so, Args, no_args, some_args, MoreArgs, last_arg, next_arg, tokens, more_tokens, arg_tokens, more_arg_tokens, Tail, ops, choose, joined, and_op, tree, more_trees, arg_trees, more_arg_trees, opens, TargetWay, target_word, target_field, target_index, target_tokens, target_tree, Assign, assigned, assign_tokens, assign_tree, Stmts, no_more, then_stmt, Stmt, an_assign, an_if, Body, body_block, body_assign, Else, no_else, else_block, else_stmt, stmts_tokens, stmt_tokens, body_tokens, else_tokens, stmts_trees, stmt_tree, body_tree, else_tree, stmts_opens, stmt_opens, body_opens, else_opens, Guard, no_guard, a_guard, guard_tokens, guard_tree, guard_opens, Transaction, a_transaction, transaction_tokens, transaction_tree, transaction_opens, Transactions, no_others, another, transactions_tokens, transaction_trees, transactions_opens, decls_tokens, struct_tokens, decls_opens, struct_opens, Program, program, program_tokens, program_tree, program_opens, AreWithin, SpellsWithin}
 
 -- what a tail adds to the nodes of what stands before it
 abbrev tail_nodes : Tail → ℕ
@@ -54,14 +54,14 @@ mutual
   more_args_small last_arg = omega arith
   more_args_small (next_arg p w m) = let h = expr_small w in let k = more_args_small m in let e = length-append (tokens w) (more_arg_tokens m) in omega arith
 
-goal_small : (g : Goal) → target_nodes (goal_tree g) ≤ length (goal_tokens g)
-goal_small (goal_word p n) = omega arith
-goal_small (goal_field p n q r f) = omega arith
-goal_small (goal_index p n q w r) = let h = expr_small w in let e = closed (tokens w) (sign fixed.CloseBracket r) in omega arith
+target_small : (g : TargetWay) → target_nodes (target_tree g) ≤ length (target_tokens g)
+target_small (target_word p n) = omega arith
+target_small (target_field p n q r f) = omega arith
+target_small (target_index p n q w r) = let h = expr_small w in let e = closed (tokens w) (sign fixed.CloseBracket r) in omega arith
 
 assign_small : (a : Assign) → stmt_nodes (assign_tree a) ≤ length (assign_tokens a)
 assign_small (assigned g p w q) =
-    let h = goal_small g in let k = expr_small w in let e = closed (tokens w) (sign fixed.Semi q) in let f = length-append (goal_tokens g) (sign fixed.Assign p ∷ (tokens w ++ sign fixed.Semi q ∷ [])) in omega arith
+    let h = target_small g in let k = expr_small w in let e = closed (tokens w) (sign fixed.Semi q) in let f = length-append (target_tokens g) (sign fixed.Assign p ∷ (tokens w ++ sign fixed.Semi q ∷ [])) in omega arith
 
 mutual
   stmts_small : (b : Stmts) → stmts_nodes (stmts_trees b) ≤ length (stmts_tokens b)
@@ -103,7 +103,7 @@ program_small (program d z e t ts) =
     let c = length-append (struct_tokens z) (decls_tokens e ++ (transaction_tokens t ++ transactions_tokens ts)) in
     let f = length-append (decls_tokens d) (struct_tokens z ++ (decls_tokens e ++ (transaction_tokens t ++ transactions_tokens ts))) in omega arith
 
-pub few_nodes : (p : ProgramForm) (l : List Token) → IsSpelled p l → program_nodes p ≤ length l
+pub few_nodes : (p : ProgramForm) (l : List Token) → SpellsWithin p l → program_nodes p ≤ length l
 few_nodes p l s =
     let h : program_nodes (program_tree s.0) ≤ length (map mark l) = subst (λ (x : List Mark). program_nodes (program_tree s.0) ≤ length x) s.2 (program_small s.0) in
     let k = length-map l mark in
@@ -185,5 +185,5 @@ program_shallow (program d z e t ts) a =
     let n = parts (transaction_opens 0 t) (transactions_opens 0 ts) m.1 in
     both (guarded_nested 64 (transaction_tree t).guard (transaction_tree t).body) (transactions_nested 64 (transaction_trees ts)) (transaction_shallow t n.0) (transactions_shallow ts n.1)
 
-pub few_nested : (p : ProgramForm) (l : List Token) → IsSpelled p l → program_nested 64 p ≡ true
+pub few_nested : (p : ProgramForm) (l : List Token) → SpellsWithin p l → program_nested 64 p ≡ true
 few_nested p l s = subst (λ (x : ProgramForm). program_nested 64 x ≡ true) s.3 (program_shallow s.0 s.4)

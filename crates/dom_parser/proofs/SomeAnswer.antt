@@ -9,7 +9,7 @@ use Rattle.dom_parser.specs.declared.kinds.Kind.{Kind}
 use Rattle.dom_parser.specs.declared.kinds.Kind.TheVariants as kind
 use Rattle.dom_parser.specs.Answer.{HasAnswer}
 use Rattle.dom_parser.specs.Faults.{located_at, unexpected_at}
-use Rattle.dom_parser.specs.Following.{Problem, Trace, bad, count, deep, fine, limit, problem, stuck, trace, whole}
+use Rattle.dom_parser.specs.inner.Following.{Problem, Trace, bad, count, deep, fine, limit, problem, stuck, trace, whole}
 use Rattle.dom_parser.specs.Grammar.{program_tree}
 use Rattle.dom_parser.specs.Tokens.{mark, offset_at, stands}
 use Rattle.dom_parser.proofs.Derived.{spelled}

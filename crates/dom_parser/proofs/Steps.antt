@@ -14,11 +14,12 @@ use Rattle.dom_parser.specs.declared.faults.Fault.TheVariants.{Unexpected, TooNe
 use Rattle.dom_parser.specs.declared.kinds.Fixed.{Fixed}
 use Rattle.dom_parser.specs.declared.kinds.Kind.{Kind}
 use Rattle.dom_parser.specs.declared.kinds.Kind.TheVariants as kind
-use Rattle.dom_parser.specs.Tokens.{Where, is_there, Mark, mark, rest, kind_in, stands, offset_in, offset_at, text_in, text_at, name_text, is_fixed, is_name, ahead, is_number, number_first}
+use Rattle.dom_parser.specs.inner.AtPlace.{Where, is_there, rest, text_in, text_at, is_fixed, is_name}
+use Rattle.dom_parser.specs.Tokens.{Mark, mark, kind_in, stands, offset_in, offset_at, name_text, ahead, is_number, number_first}
 use Rattle.dom_parser.specs.Grammar.{top, sign, name_mark, number_mark, bin_mark, un_mark, un_kind}
-use Rattle.dom_parser.specs.Following as item
-use Rattle.dom_parser.specs.Following.{Item, term, close, ended, level, more, args, args_row, when, then_row, operator_row, operand_row, level_row, choice_row, expand, may_skip, resume, step, may_end, ends, held, Trace, fine, stuck, count, on_step, trace, limit, Problem, bad, deep, problem, fault_from}
-use Rattle.dom_parser.specs.Reads.{Step, FailsBy}
+use Rattle.dom_parser.specs.inner.Following as item
+use Rattle.dom_parser.specs.inner.Following.{Item, term, close, ended, level, more, args, args_row, when, then_row, operator_row, operand_row, level_row, choice_row, expand, may_skip, resume, step, may_end, ends, held, Trace, fine, stuck, count, on_step, trace, limit, Problem, bad, deep, problem, fault_from}
+use Rattle.dom_parser.specs.inner.Reads.{Step, FailsBy}
 use Rattle.dom_parser.proofs.KnownKinds.{kind_fixed, kind_name}
 
 rest_next : (l : List Token) (p : ℕ) (t : Token) → slice_get l p ≡ Some t → rest l p ≡ mark t ∷ rest l (p + 1)

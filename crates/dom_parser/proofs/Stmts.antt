@@ -12,11 +12,13 @@ use Rattle.dom_parser.specs.declared.kinds.Kind.TheVariants as kind
 use Rattle.dom_parser.specs.declared.kinds.Suffix.TheVariants as suffix
 use Rattle.dom_parser.specs.declared.kinds.Lead.{Lead}
 use Rattle.dom_parser.specs.declared.kinds.Lead.TheVariants as lead
-use Rattle.dom_parser.specs.Tokens.{Mark, rest, stands, offset_at, text_at, is_fixed, is_name, ahead}
-use Rattle.dom_parser.specs.Grammar.{top, sign, name_mark, tokens, tree, goal_word, goal_field, goal_index, goal_tokens, goal_tree, assigned, no_more, then_stmt, an_assign, an_if, body_block, body_assign, no_else, else_block, else_stmt, stmts_tokens, stmt_tokens, body_tokens, else_tokens, stmts_trees, body_tree, else_tree}
-use Rattle.dom_parser.specs.Following as item
-use Rattle.dom_parser.specs.Following.{Item, term, close, ended, level, when, then_row, paren_row, bracket_row, target_row, assign_row, if_row, block_row, stmt_row, body_row, else_row, suffix_of, lead_of, begins, expand, may_skip, held, limit, Problem, bad, deep, fault_from}
-use Rattle.dom_parser.specs.Reads.{FailsBy, Step, Reads, Passes, SpellsExpr, ReadsIn, FailsIn, ReadsGoal, SpellsAssign, SpellsCondition, SpellsStmt, SpellsBlock, SpellsBody, SpellsElse, with_stmts, StmtsSoFar}
+use Rattle.dom_parser.specs.Tokens.{Mark, stands, offset_at, ahead}
+use Rattle.dom_parser.specs.inner.AtPlace.{rest, text_at, is_fixed, is_name}
+use Rattle.dom_parser.specs.Grammar.{top, sign, name_mark, tokens, tree, target_word, target_field, target_index, target_tokens, target_tree, assigned, no_more, then_stmt, an_assign, an_if, body_block, body_assign, no_else, else_block, else_stmt, stmts_tokens, stmt_tokens, body_tokens, else_tokens, stmts_trees, body_tree, else_tree}
+use Rattle.dom_parser.specs.inner.Following as item
+use Rattle.dom_parser.specs.inner.Following.{Item, term, close, ended, level, when, then_row, paren_row, bracket_row, target_row, assign_row, if_row, block_row, stmt_row, body_row, else_row, suffix_of, lead_of, begins, expand, may_skip, held, limit, Problem, bad, deep, fault_from}
+use Rattle.dom_parser.specs.inner.Reads.{FailsBy, Step, Reads, Passes, SpellsExpr, ReadsIn, FailsIn, ReadsTarget, SpellsAssign, SpellsCondition, SpellsStmt, SpellsBlock, SpellsBody, SpellsElse}
+use Rattle.dom_parser.proofs.SoFar.{with_stmts, StmtsSoFar}
 use Rattle.dom_ast.specs.declared.expr.Expr.{Expr}
 use Rattle.dom_ast.specs.declared.stmt.Target.{Target as TargetTree}
 use Rattle.dom_ast.specs.declared.stmt.Stmt.TheVariants.{Assign as AssignTree, If as IfTree}
@@ -56,21 +58,21 @@ lead_within l p e = word_inside l p (lead_assign (stands l p) e)
 the_name : (l : List Token) (p : ℕ) → lead_of (stands l p) ≡ lead.Assign → rest l p ≡ name_mark (offset_at l p) (text_at l p) ∷ rest l (p + 1)
 the_name l p e = word_mark l p (lead_assign (stands l p) e)
 
-plain_goal : (n : ℕ) (l : List Token) (p : ℕ) → lead_of (stands l p) ≡ lead.Assign → target_row (suffix_of (stands l (p + 1))) ≡ None → ReadsGoal n l p (p + 1) (to_word (text_at l p))
-plain_goal n l p e x =
+plain_target : (n : ℕ) (l : List Token) (p : ℕ) → lead_of (stands l p) ≡ lead.Assign → target_row (suffix_of (stands l (p + 1))) ≡ None → ReadsTarget n l p (p + 1) (to_word (text_at l p))
+plain_target n l p e x =
     let inside = lead_within l p e in
     record {
       forth = omega arith;
       within = omega arith;
       reads = λ s z. skips l (p + 1) item.target_rest s x refl;
-      spelled = (goal_word (offset_at l p) (text_at l p), tt, the_name l p e, refl, refl);
+      spelled = (target_word (offset_at l p) (text_at l p), tt, the_name l p e, refl, refl);
     }
 
-pub goal_plain : (n : ℕ) (l : List Token) (p : ℕ) → lead_of (stands l p) ≡ lead.Assign → suffix_of (stands l (p + 1)) ≡ suffix.Other → ReadsGoal n l p (p + 1) (to_word (text_at l p))
-goal_plain n l p e x = plain_goal n l p e (ap target_row x)
+pub target_plain : (n : ℕ) (l : List Token) (p : ℕ) → lead_of (stands l p) ≡ lead.Assign → suffix_of (stands l (p + 1)) ≡ suffix.Other → ReadsTarget n l p (p + 1) (to_word (text_at l p))
+target_plain n l p e x = plain_target n l p e (ap target_row x)
 
-pub goal_paren : (n : ℕ) (l : List Token) (p : ℕ) → lead_of (stands l p) ≡ lead.Assign → suffix_of (stands l (p + 1)) ≡ suffix.Paren → ReadsGoal n l p (p + 1) (to_word (text_at l p))
-goal_paren n l p e x = plain_goal n l p e (ap target_row x)
+pub target_paren : (n : ℕ) (l : List Token) (p : ℕ) → lead_of (stands l p) ≡ lead.Assign → suffix_of (stands l (p + 1)) ≡ suffix.Paren → ReadsTarget n l p (p + 1) (to_word (text_at l p))
+target_paren n l p e x = plain_target n l p e (ap target_row x)
 
 pub no_field : (n : ℕ) (l : List Token) (p : ℕ) → n ≤ limit → suffix_of (stands l (p + 1)) ≡ suffix.Dot → is_name (stands l (p + 2)) ≡ false → FailsBy item.target_rest n l (p + 1) (Unexpected (p + 2))
 no_field n l p h x m =
@@ -78,8 +80,8 @@ no_field n l p h x m =
     let missing : FailsBy item.a_name n l (p + 1 + 1) (Unexpected (p + 2)) = subst (λ (k : ℕ). FailsBy item.a_name n l k (Unexpected (p + 2))) two (fails_name n l (p + 2) m) in
     row_failed item.target_rest (item.a_name ∷ []) n l (p + 1) (Unexpected (p + 2)) (ap target_row x) (omega arith) (row_here item.a_name [] n n l (p + 1 + 1) (Unexpected (p + 2)) (omega arith) missing)
 
-pub goal_with_field : (n : ℕ) (l : List Token) (p : ℕ) → n ≤ limit → lead_of (stands l p) ≡ lead.Assign → suffix_of (stands l (p + 1)) ≡ suffix.Dot → is_name (stands l (p + 2)) ≡ true → ReadsGoal n l p (p + 3) (to_field (text_at l p) (offset_at l (p + 2)) (text_at l (p + 2)))
-goal_with_field n l p h e x m =
+pub target_with_field : (n : ℕ) (l : List Token) (p : ℕ) → n ≤ limit → lead_of (stands l p) ≡ lead.Assign → suffix_of (stands l (p + 1)) ≡ suffix.Dot → is_name (stands l (p + 2)) ≡ true → ReadsTarget n l p (p + 3) (to_field (text_at l p) (offset_at l (p + 2)) (text_at l (p + 2)))
+target_with_field n l p h e x m =
     let two : p + 2 ≡ p + 1 + 1 = omega arith in
     let three : p + 2 + 1 ≡ p + 3 = omega arith in
     let inside = named_inside l (p + 2) m in
@@ -90,14 +92,14 @@ goal_with_field n l p h e x m =
       forth = omega arith;
       within = omega arith;
       reads = row_read item.target_rest (item.a_name ∷ []) n l (p + 1) (p + 3) (ap target_row x) (omega arith) (row_one item.a_name [] n n l (p + 1 + 1) (p + 3) (p + 3) (omega arith) last (row_none n l (p + 3)));
-      spelled = (goal_field (offset_at l p) (text_at l p) (offset_at l (p + 1)) (offset_at l (p + 2)) (text_at l (p + 2)), tt, the_name l p e ∙ ap (λ (y : List Mark). name_mark (offset_at l p) (text_at l p) ∷ y) (second ∙ ap (λ (y : List Mark). sign fixed.Dot (offset_at l (p + 1)) ∷ y) third), refl, refl);
+      spelled = (target_field (offset_at l p) (text_at l p) (offset_at l (p + 1)) (offset_at l (p + 2)) (text_at l (p + 2)), tt, the_name l p e ∙ ap (λ (y : List Mark). name_mark (offset_at l p) (text_at l p) ∷ y) (second ∙ ap (λ (y : List Mark). sign fixed.Dot (offset_at l (p + 1)) ∷ y) third), refl, refl);
     }
 
 pub no_index : (n : ℕ) (l : List Token) (p : ℕ) (f : Fault) → suffix_of (stands l (p + 1)) ≡ suffix.Bracket → FailsIn fixed.CloseBracket n l (p + 1) f → FailsBy item.target_rest n l (p + 1) f
 no_index n l p f x a = a.there item.target_rest (ap target_row x)
 
-pub goal_with_index : (n : ℕ) (l : List Token) (p next : ℕ) (e : ExprForm) → lead_of (stands l p) ≡ lead.Assign → suffix_of (stands l (p + 1)) ≡ suffix.Bracket → ReadsIn fixed.CloseBracket n l (p + 1) next e → ReadsGoal n l p next (to_index (text_at l p) e)
-goal_with_index n l p next e b x r =
+pub target_with_index : (n : ℕ) (l : List Token) (p next : ℕ) (e : ExprForm) → lead_of (stands l p) ≡ lead.Assign → suffix_of (stands l (p + 1)) ≡ suffix.Bracket → ReadsIn fixed.CloseBracket n l (p + 1) next e → ReadsTarget n l p next (to_index (text_at l p) e)
+target_with_index n l p next e b x r =
     let way = r.spelled.0 in
     let a = r.forth in
     let o = offset_at l (p + 1) in
@@ -106,7 +108,7 @@ goal_with_index n l p next e b x r =
       forth = omega arith;
       within = r.within;
       reads = r.reads item.target_rest (ap target_row x);
-      spelled = (goal_index (offset_at l p) (text_at l p) o way r.spelled.2, r.spelled.1, the_name l p b ∙ ap (λ (y : List Mark). name_mark (offset_at l p) (text_at l p) ∷ y) (second ∙ ap (λ (y : List Mark). sign fixed.OpenBracket o ∷ y) (sym (append_assoc (tokens way) (sign fixed.CloseBracket r.spelled.2 ∷ []) (rest l next)))), ap (λ (y : ExprForm). to_index (text_at l p) y) r.spelled.4, refl);
+      spelled = (target_index (offset_at l p) (text_at l p) o way r.spelled.2, r.spelled.1, the_name l p b ∙ ap (λ (y : List Mark). name_mark (offset_at l p) (text_at l p) ∷ y) (second ∙ ap (λ (y : List Mark). sign fixed.OpenBracket o ∷ y) (sym (append_assoc (tokens way) (sign fixed.CloseBracket r.spelled.2 ∷ []) (rest l next)))), ap (λ (y : ExprForm). to_index (text_at l p) y) r.spelled.4, refl);
     }
 
 -- assignments
@@ -114,23 +116,23 @@ goal_with_index n l p next e b x r =
 name_there : (l : List Token) (p : ℕ) → lead_of (stands l p) ≡ lead.Assign → expand item.assignment (stands l p) (ahead l p) ≡ Some assign_row
 name_there l p e = ap (λ (k : Kind). when (is_name k) assign_row) (lead_assign (stands l p) e)
 
-pub goal_fails : (n : ℕ) (l : List Token) (p : ℕ) (f : Fault) → n ≤ limit → lead_of (stands l p) ≡ lead.Assign → FailsBy item.target_rest n l (p + 1) f → FailsBy item.assignment n l p f
-goal_fails n l p f h e a =
+pub target_fails : (n : ℕ) (l : List Token) (p : ℕ) (f : Fault) → n ≤ limit → lead_of (stands l p) ≡ lead.Assign → FailsBy item.target_rest n l (p + 1) f → FailsBy item.assignment n l p f
+target_fails n l p f h e a =
     row_failed item.assignment assign_row n l p f (name_there l p e) (omega arith) (row_here item.target_rest (term fixed.Assign ∷ level top ∷ term fixed.Semi ∷ []) n n l (p + 1) f (omega arith) a)
 
-pub no_equals : (n : ℕ) (l : List Token) (p q : ℕ) (t : TargetForm) → n ≤ limit → lead_of (stands l p) ≡ lead.Assign → ReadsGoal n l p q t → is_fixed fixed.Assign (stands l q) ≡ false → FailsBy item.assignment n l p (Unexpected q)
+pub no_equals : (n : ℕ) (l : List Token) (p q : ℕ) (t : TargetForm) → n ≤ limit → lead_of (stands l p) ≡ lead.Assign → ReadsTarget n l p q t → is_fixed fixed.Assign (stands l q) ≡ false → FailsBy item.assignment n l p (Unexpected q)
 no_equals n l p q t h e r x =
     row_failed item.assignment assign_row n l p (Unexpected q) (name_there l p e) (omega arith) (row_later item.target_rest (term fixed.Assign ∷ level top ∷ term fixed.Semi ∷ []) n n l (p + 1) q (Unexpected q) (omega arith) r.reads (row_here (term fixed.Assign) (level top ∷ term fixed.Semi ∷ []) n n l q (Unexpected q) (omega arith) (fails_term fixed.Assign n l q x)))
 
-pub value_fails : (n : ℕ) (l : List Token) (p q : ℕ) (t : TargetForm) (f : Fault) → n ≤ limit → lead_of (stands l p) ≡ lead.Assign → ReadsGoal n l p q t → is_fixed fixed.Assign (stands l q) ≡ true → FailsBy (level top) n l (q + 1) f → FailsBy item.assignment n l p f
+pub value_fails : (n : ℕ) (l : List Token) (p q : ℕ) (t : TargetForm) (f : Fault) → n ≤ limit → lead_of (stands l p) ≡ lead.Assign → ReadsTarget n l p q t → is_fixed fixed.Assign (stands l q) ≡ true → FailsBy (level top) n l (q + 1) f → FailsBy item.assignment n l p f
 value_fails n l p q t f h e r x a =
     row_failed item.assignment assign_row n l p f (name_there l p e) (omega arith) (row_later item.target_rest (term fixed.Assign ∷ level top ∷ term fixed.Semi ∷ []) n n l (p + 1) q f (omega arith) r.reads (row_later (term fixed.Assign) (level top ∷ term fixed.Semi ∷ []) n n l q (q + 1) f (omega arith) (read_term fixed.Assign n l q x h) (row_here (level top) (term fixed.Semi ∷ []) n n l (q + 1) f (omega arith) a)))
 
-pub no_semi : (n : ℕ) (Is : List Mark → Type 0) (l : List Token) (p q u : ℕ) (t : TargetForm) → n ≤ limit → lead_of (stands l p) ≡ lead.Assign → ReadsGoal n l p q t → is_fixed fixed.Assign (stands l q) ≡ true → Reads (level top) n Is l (q + 1) u → is_fixed fixed.Semi (stands l u) ≡ false → FailsBy item.assignment n l p (Unexpected u)
+pub no_semi : (n : ℕ) (Is : List Mark → Type 0) (l : List Token) (p q u : ℕ) (t : TargetForm) → n ≤ limit → lead_of (stands l p) ≡ lead.Assign → ReadsTarget n l p q t → is_fixed fixed.Assign (stands l q) ≡ true → Reads (level top) n Is l (q + 1) u → is_fixed fixed.Semi (stands l u) ≡ false → FailsBy item.assignment n l p (Unexpected u)
 no_semi n Is l p q u t h e r x v y =
     row_failed item.assignment assign_row n l p (Unexpected u) (name_there l p e) (omega arith) (row_later item.target_rest (term fixed.Assign ∷ level top ∷ term fixed.Semi ∷ []) n n l (p + 1) q (Unexpected u) (omega arith) r.reads (row_later (term fixed.Assign) (level top ∷ term fixed.Semi ∷ []) n n l q (q + 1) (Unexpected u) (omega arith) (read_term fixed.Assign n l q x h) (row_later (level top) (term fixed.Semi ∷ []) n n l (q + 1) u (Unexpected u) (omega arith) v.reads (row_here (term fixed.Semi) [] n n l u (Unexpected u) (omega arith) (fails_term fixed.Semi n l u y)))))
 
-pub reads_assign : (n : ℕ) (l : List Token) (p q u : ℕ) (t : TargetForm) (e : ExprForm) → n ≤ limit → lead_of (stands l p) ≡ lead.Assign → ReadsGoal n l p q t → is_fixed fixed.Assign (stands l q) ≡ true → Reads (level top) n (SpellsExpr top e) l (q + 1) u → is_fixed fixed.Semi (stands l u) ≡ true → Reads item.assignment n (SpellsAssign (assign (offset_at l p) t e)) l p (u + 1)
+pub reads_assign : (n : ℕ) (l : List Token) (p q u : ℕ) (t : TargetForm) (e : ExprForm) → n ≤ limit → lead_of (stands l p) ≡ lead.Assign → ReadsTarget n l p q t → is_fixed fixed.Assign (stands l q) ≡ true → Reads (level top) n (SpellsExpr top e) l (q + 1) u → is_fixed fixed.Semi (stands l u) ≡ true → Reads item.assignment n (SpellsAssign (assign (offset_at l p) t e)) l p (u + 1)
 reads_assign n l p q u t e h b r x v y =
     let g = r.spelled.0 in
     let way = v.spelled.2.0 in
@@ -144,7 +146,7 @@ reads_assign n l p q u t e h b r x v y =
       forth = omega arith;
       within = omega arith;
       reads = row_read item.assignment assign_row n l p (u + 1) (name_there l p b) (omega arith) (row_one item.target_rest (term fixed.Assign ∷ level top ∷ term fixed.Semi ∷ []) n n l (p + 1) q (u + 1) (omega arith) r.reads (row_one (term fixed.Assign) (level top ∷ term fixed.Semi ∷ []) n n l q (q + 1) (u + 1) (omega arith) (read_term fixed.Assign n l q x h) (row_one (level top) (term fixed.Semi ∷ []) n n l (q + 1) u (u + 1) (omega arith) v.reads (row_one (term fixed.Semi) [] n n l u (u + 1) (u + 1) (omega arith) (read_term fixed.Semi n l u y h) (row_none n l (u + 1))))));
-      spelled = (goal_tokens g ++ sign fixed.Assign eq ∷ (tokens way ++ sign fixed.Semi semi ∷ []), r.spelled.2 ∙ ap (λ (z : List Mark). goal_tokens g ++ z) value_in ∙ sym (append_assoc (goal_tokens g) (sign fixed.Assign eq ∷ (tokens way ++ sign fixed.Semi semi ∷ [])) (rest l (u + 1))), (assigned g eq way semi, (r.spelled.1, v.spelled.2.1), refl, ap (λ (z : ℕ). assign z (goal_tree g) (tree way)) r.spelled.4 ∙ ap (λ (z : TargetForm). assign (offset_at l p) z (tree way)) r.spelled.3 ∙ ap (λ (z : ExprForm). assign (offset_at l p) t z) v.spelled.2.3));
+      spelled = (target_tokens g ++ sign fixed.Assign eq ∷ (tokens way ++ sign fixed.Semi semi ∷ []), r.spelled.2 ∙ ap (λ (z : List Mark). target_tokens g ++ z) value_in ∙ sym (append_assoc (target_tokens g) (sign fixed.Assign eq ∷ (tokens way ++ sign fixed.Semi semi ∷ [])) (rest l (u + 1))), (assigned g eq way semi, (r.spelled.1, v.spelled.2.1), refl, ap (λ (z : ℕ). assign z (target_tree g) (tree way)) r.spelled.4 ∙ ap (λ (z : TargetForm). assign (offset_at l p) z (tree way)) r.spelled.3 ∙ ap (λ (z : ExprForm). assign (offset_at l p) t z) v.spelled.2.3));
     }
 
 -- what a name begins is an assignment
@@ -433,7 +435,7 @@ passes_stmt n l p q a h e b r =
 
 -- with the trees as the functions build them
 
-pub assign_read : (n : ℕ) (l : List Token) (p q u x : ℕ) (t : TargetTree) (e : Expr) → n ≤ limit → lead_of (stands l p) ≡ lead.Assign → ReadsGoal n l p q (target_form t) → is_fixed fixed.Assign (stands l q) ≡ true → Reads (level top) n (SpellsExpr top (form e)) l (q + 1) u → is_fixed fixed.Semi (stands l u) ≡ true → x ≡ offset_at l p → Reads item.assignment n (SpellsAssign (stmt_form (AssignTree x t e))) l p (u + 1)
+pub assign_read : (n : ℕ) (l : List Token) (p q u x : ℕ) (t : TargetTree) (e : Expr) → n ≤ limit → lead_of (stands l p) ≡ lead.Assign → ReadsTarget n l p q (target_form t) → is_fixed fixed.Assign (stands l q) ≡ true → Reads (level top) n (SpellsExpr top (form e)) l (q + 1) u → is_fixed fixed.Semi (stands l u) ≡ true → x ≡ offset_at l p → Reads item.assignment n (SpellsAssign (stmt_form (AssignTree x t e))) l p (u + 1)
 assign_read n l p q u x t e h b r a v c f =
     subst (λ (y : StmtForm). Reads item.assignment n (SpellsAssign y) l p (u + 1)) (sym (form_assign x t e ∙ ap (λ (y : ℕ). assign y (target_form t) (form e)) f)) (reads_assign n l p q u (target_form t) (form e) h b r a v c)
 

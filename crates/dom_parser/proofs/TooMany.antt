@@ -12,17 +12,17 @@ use Rattle.dom_parser.specs.declared.kinds.Kind.TheVariants as kind
 use Rattle.dom_parser.specs.Tokens as Tokens
 use Rattle.dom_parser.specs.Tokens.{Mark, mark, is_minus, is_number, number_first}
 use Rattle.dom_parser.specs.Grammar.{Program, program_opens}
-use Rattle.dom_parser.specs.Following as item
-use Rattle.dom_parser.specs.Following.{Item, step, held, Trace, fine, stuck, count, on_step, trace, problem, bad, deep, limit, whole}
-use Rattle.dom_parser.specs.HeadReads.{FailsWholeBy}
+use Rattle.dom_parser.specs.inner.Following as item
+use Rattle.dom_parser.specs.inner.Following.{Item, step, held, Trace, fine, stuck, count, on_step, trace, problem, bad, deep, limit, whole}
+use Rattle.dom_parser.specs.inner.HeadReads.{FailsWholeBy}
 use Rattle.dom_parser.specs.Faults.{located_at, BeginsWith, IsFirstOver, OpensTooMany, Rules, IsFirstFault}
 use Rattle.dom_parser.proofs.Traces.{counted}
 use Rattle.dom_parser.proofs.Whole.{program_traced}
-use Rattle.dom_parser.proofs.Kept.{take_map, not_viable, not_spelled}
+use Rattle.dom_parser.proofs.Kept.{take_map, begins_none, not_spelled}
 use Rattle.dom_parser.proofs.Derived.{AllClean, spelled}
 use Rattle.dom_parser.proofs.Finished.{finish, Good, finishes, step_good, whole_good}
 use Rattle.dom_parser.proofs.Growth.{one_more, no_more, step_same}
-use Rattle.dom_parser.proofs.Viable.{look, both_clean, finish_clean, marks_clean, no_end, take_clean, viable_before}
+use Rattle.dom_parser.proofs.Viable.{look, both_clean, finish_clean, marks_clean, no_end, take_clean, begins_before}
 
 -- a test of what stands at a place
 abbrev at_place : (Kind → Bool) → List Mark → ℕ → Bool
@@ -239,7 +239,7 @@ there_or_end l p e =
 -- each fault of the parser
 
 ruled : (l : List Token) (f : Fault) → FailsWholeBy whole l 0 f → Rules l f
-ruled l (place.Unexpected p) a = record { there = there_or_end l p a.there; before = viable_before l p a.there; within = λ q h o. none_before l p a.there q h o; with_it = λ h v. not_viable l p a.there h v; together = λ f s. not_spelled l p f a.there s }
+ruled l (place.Unexpected p) a = record { there = there_or_end l p a.there; before = begins_before l p a.there; within = λ q h o. none_before l p a.there q h o; with_it = λ h v. begins_none l p a.there h v; together = λ f s. not_spelled l p f a.there s }
 ruled l (place.TooNested p) a = opens l p a.there
 ruled l place.Memory a = tt
 

@@ -10,10 +10,11 @@ use Rattle.dom_parser.specs.declared.kinds.Fixed.{Fixed}
 use Rattle.dom_parser.specs.declared.kinds.Fixed.TheVariants as fixed
 use Rattle.dom_parser.specs.declared.kinds.Kind.{Kind}
 use Rattle.dom_parser.specs.declared.kinds.Kind.TheVariants as kind
-use Rattle.dom_parser.specs.Tokens.{Mark, rank_of, is_fixed, operator_of, number_first}
+use Rattle.dom_parser.specs.Tokens.{Mark, rank_of, number_first}
+use Rattle.dom_parser.specs.inner.AtPlace.{is_fixed, operator_of}
 use Rattle.dom_parser.specs.Grammar.{top, sign, name_mark, number_mark, bin_mark, un_mark, un_kind, Way, a_number, a_negated, a_word, a_field, an_index, a_call, in_parens, operated, level_of, More, stop, and_then, if_so, Args, no_args, some_args, MoreArgs, last_arg, next_arg, MakesNode, IsAt, IsAfter, AreArgs, AreMoreArgs, tokens, more_tokens, arg_tokens, more_arg_tokens, opens, more_opens, arg_opens, more_arg_opens}
-use Rattle.dom_parser.specs.Following as item
-use Rattle.dom_parser.specs.Following.{Item, term, close, ended, level, more, args, args_row, name_rest, more_args, when, then_row, choice_row, operator_row, level_row, expand, may_skip, resume, step, held, Trace, fine, stuck, count, on_step, trace}
+use Rattle.dom_parser.specs.inner.Following as item
+use Rattle.dom_parser.specs.inner.Following.{Item, term, close, ended, level, more, args, args_row, name_rest, more_args, when, then_row, choice_row, operator_row, level_row, expand, may_skip, resume, step, held, Trace, fine, stuck, count, on_step, trace}
 use Rattle.dom_parser.proofs.Steps.{more_end}
 
 -- counts before a trace

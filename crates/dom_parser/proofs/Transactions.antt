@@ -9,12 +9,14 @@ use Rattle.dom_ast.specs.Form.{ExprForm, StmtForms, TransactionForm, transaction
 use Rattle.dom_parser.specs.declared.faults.Fault.{Fault}
 use Rattle.dom_parser.specs.declared.faults.Fault.TheVariants.{Unexpected, TooNested, Memory}
 use Rattle.dom_parser.specs.declared.kinds.Fixed.TheVariants as fixed
-use Rattle.dom_parser.specs.Tokens.{Mark, rest, stands, offset_at, text_at, is_fixed, is_name, ahead}
+use Rattle.dom_parser.specs.Tokens.{Mark, stands, offset_at, ahead}
+use Rattle.dom_parser.specs.inner.AtPlace.{rest, text_at, is_fixed, is_name}
 use Rattle.dom_parser.specs.Grammar.{sign, name_mark, decls_tokens, decls_trees, struct_tokens, struct_tree, stmts_tokens, stmts_trees, no_guard, a_guard, guard_tokens, a_transaction, transaction_tokens, transaction_tree, no_others, another, transactions_tokens, transaction_trees, program}
-use Rattle.dom_parser.specs.Following as item
-use Rattle.dom_parser.specs.Following.{problem, trace, Item, term, close, ended, when, whole, expand, may_skip, held, limit, bad, deep, fault_from}
-use Rattle.dom_parser.specs.Reads.{FailsBy, Step, Reads, Passes, SpellsCondition, SpellsBlock}
-use Rattle.dom_parser.specs.HeadReads.{ReadsDecls, SpellsStruct, ReadsHeads, FailsRowBy, ReadsHeader, SpellsGuard, transaction_row, ReadsTransaction, TransactionsSoFar, ReadsTransactions, FailsWholeBy, ReadsWhole}
+use Rattle.dom_parser.specs.inner.Following as item
+use Rattle.dom_parser.specs.inner.Following.{problem, trace, Item, term, close, ended, when, whole, expand, may_skip, held, limit, bad, deep, fault_from}
+use Rattle.dom_parser.specs.inner.Reads.{FailsBy, Step, Reads, Passes, SpellsCondition, SpellsBlock}
+use Rattle.dom_parser.specs.inner.HeadReads.{ReadsDecls, SpellsStruct, ReadsHeads, FailsRowBy, ReadsHeader, SpellsGuard, transaction_row, ReadsTransaction, ReadsTransactions, FailsWholeBy, ReadsWhole}
+use Rattle.dom_parser.proofs.SoFar.{TransactionsSoFar}
 use Rattle.dom_parser.proofs.Steps.{rest_end, rest_there, skips, fails, takes, row_none, row_one, row_here, row_later, row_read, row_failed, fails_here, read_term, read_name, read_close, fails_term, fails_name, fails_close, fixed_mark, fixed_inside, named_mark}
 use Rattle.dom_parser.proofs.HeadParts.{step_to, mark_to}
 

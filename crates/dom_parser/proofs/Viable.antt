@@ -7,10 +7,11 @@ use Rattle.dom_parser.specs.declared.kinds.Kind.{Kind}
 use Rattle.dom_parser.specs.declared.kinds.Kind.TheVariants as kind
 use Rattle.dom_parser.specs.declared.kinds.Begin.{Begin}
 use Rattle.dom_parser.specs.declared.kinds.Fixed.TheVariants as fixed
-use Rattle.dom_parser.specs.Tokens.{Mark, mark, name_text, token_kind, word_text, is_fixed, unary_of, number_first}
-use Rattle.dom_parser.specs.Grammar.{top, IsViable}
-use Rattle.dom_parser.specs.Following as item
-use Rattle.dom_parser.specs.Following.{Item, expand, may_skip, resume, step, held, Trace, fine, stuck, count, on_step, trace, then_row, problem, Problem, bad, deep, limit, whole}
+use Rattle.dom_parser.specs.Tokens.{Mark, mark, name_text, token_kind, word_text, number_first}
+use Rattle.dom_parser.specs.inner.AtPlace.{is_fixed, unary_of}
+use Rattle.dom_parser.specs.Grammar.{top, BeginProgram}
+use Rattle.dom_parser.specs.inner.Following as item
+use Rattle.dom_parser.specs.inner.Following.{Item, expand, may_skip, resume, step, held, Trace, fine, stuck, count, on_step, trace, then_row, problem, Problem, bad, deep, limit, whole}
 use Rattle.dom_parser.proofs.Traces.{counted}
 use Rattle.dom_parser.proofs.Kept.{expand_any, at_step, take_map}
 use Rattle.dom_parser.proofs.Derived.{AllClean, spelled}
@@ -185,8 +186,8 @@ completed (t ∷ u ∷ l) s p (suc (suc k)) g e =
     let f = completed (u ∷ l) r.0 (p + 1) (suc k) (step_good s r.0 t.kind (number_first (u ∷ l)) g r.1) (r.2 ∙ ap (λ (q : ℕ). Some (bad q)) same) in
     (f.0, held r.0 ∷ f.1, f.2, ap (λ (o : Option (List Item)). on_step o (λ s. trace s (take (suc k) (u ∷ l) ++ f.0))) r.1 ∙ ap (count (held r.0)) f.3)
 
-pub viable_before : (l : List Token) (p : ℕ) → problem 0 (trace whole (map mark l)) ≡ Some (bad p) → IsViable (take p l)
-viable_before l p e =
+pub begins_before : (l : List Token) (p : ℕ) → problem 0 (trace whole (map mark l)) ≡ Some (bad p) → BeginProgram (take p l)
+begins_before l p e =
     let none : 0 + p ≡ p = omega arith in
     let f = completed (map mark l) whole 0 p whole_good (e ∙ ap (λ (q : ℕ). Some (bad q)) (sym none)) in
     let w = spelled (take p (map mark l) ++ f.0) f.1 (both_clean (take p (map mark l)) f.0 (take_clean p (map mark l) (marks_clean l)) f.2) f.3 in

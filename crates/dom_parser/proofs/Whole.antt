@@ -12,11 +12,12 @@ use Rattle.dom_parser.specs.declared.faults.Fault.{Fault}
 use Rattle.dom_parser.specs.declared.faults.Fault.TheVariants as place
 use Rattle.dom_parser.specs.declared.faults.ParseFault.{ParseFault}
 use Rattle.dom_parser.specs.Faults.{unexpected_at, located_at, SpellsNone}
-use Rattle.dom_parser.specs.HeadReads.{ReadsWhole, FailsWholeBy}
-use Rattle.dom_parser.specs.Tokens.{Mark, mark, is_fixed, stands, offset_at}
-use Rattle.dom_parser.specs.Grammar.{top, sign, name_mark, Way, IsAt, tokens, opens, goal_word, goal_field, goal_index, Assign, assigned, IsAssign, assign_tokens, assign_opens, Stmts, no_more, then_stmt, Stmt, an_assign, an_if, Body, body_block, body_assign, Else, no_else, else_block, else_stmt, AreStmts, IsStmt, IsBody, IsElse, stmts_tokens, stmt_tokens, body_tokens, else_tokens, stmts_opens, stmt_opens, body_opens, else_opens, Constant, plain, negative, constant_tokens, constant_opens, Value, a_constant, a_name, value_tokens, value_opens, Start, no_start, bare, braced, start_tokens, start_opens, Size, no_size, number_size, name_size, size_tokens, size_opens, Decl, a_define, a_global, decl_tokens, decl_opens, Decls, no_decls, then_decl, decls_tokens, decls_opens, Fields, no_fields, a_field_of, field_tokens, field_opens, Structure, a_struct, struct_tokens, struct_opens, Guard, no_guard, a_guard, IsGuard, guard_tokens, guard_opens, Transaction, a_transaction, IsTransaction, transaction_tokens, transaction_opens, Transactions, no_others, another, AreTransactions, transactions_tokens, transactions_opens, Program, program, IsProgram, program_tokens, program_opens, Spells, AreWithin, IsSpelled}
-use Rattle.dom_parser.specs.Following as item
-use Rattle.dom_parser.specs.Following.{Item, term, close, ended, level, assign_row, if_row, expand, held, Trace, fine, stuck, count, trace, limit, Problem, problem, whole}
+use Rattle.dom_parser.specs.inner.HeadReads.{ReadsWhole, FailsWholeBy}
+use Rattle.dom_parser.specs.Tokens.{Mark, mark, stands, offset_at}
+use Rattle.dom_parser.specs.inner.AtPlace.{is_fixed}
+use Rattle.dom_parser.specs.Grammar.{top, sign, name_mark, Way, IsAt, tokens, opens, target_word, target_field, target_index, Assign, assigned, IsAssign, assign_tokens, assign_opens, Stmts, no_more, then_stmt, Stmt, an_assign, an_if, Body, body_block, body_assign, Else, no_else, else_block, else_stmt, AreStmts, IsStmt, IsBody, IsElse, stmts_tokens, stmt_tokens, body_tokens, else_tokens, stmts_opens, stmt_opens, body_opens, else_opens, Constant, plain, negative, constant_tokens, constant_opens, Value, a_constant, a_name, value_tokens, value_opens, Start, no_start, bare, braced, start_tokens, start_opens, Size, no_size, number_size, name_size, size_tokens, size_opens, Decl, a_define, a_global, decl_tokens, decl_opens, Decls, no_decls, then_decl, decls_tokens, decls_opens, Fields, no_fields, a_field_of, field_tokens, field_opens, Structure, a_struct, struct_tokens, struct_opens, Guard, no_guard, a_guard, IsGuard, guard_tokens, guard_opens, Transaction, a_transaction, IsTransaction, transaction_tokens, transaction_opens, Transactions, no_others, another, AreTransactions, transactions_tokens, transactions_opens, Program, program, IsProgram, program_tokens, program_opens, Spells, AreWithin, SpellsWithin}
+use Rattle.dom_parser.specs.inner.Following as item
+use Rattle.dom_parser.specs.inner.Following.{Item, term, close, ended, level, assign_row, if_row, expand, held, Trace, fine, stuck, count, trace, limit, Problem, problem, whole}
 use Rattle.dom_parser.proofs.Traces.{counted, counted_append, ends_close, in_brackets, way_traced, ended_passes, Refused, passes, goes}
 
 -- an expression and the symbol after it
@@ -33,11 +34,11 @@ value_traced p w q a s l = ap (count (held s)) (in_term fixed.Semi w a q s l ref
 
 -- an item that a name leads on as an assignment, and others after it
 assign_traced : (i : Item) (x s : List Item) → ((n : Bool) → expand i kind.Name n ≡ Some (assign_row ++ x)) → (a : Assign) → IsAssign a → (l : List Mark) → trace (i ∷ s) (assign_tokens a ++ l) ≡ counted (assign_opens (held (x ++ s)) a) (trace (x ++ s) l)
-assign_traced i x s e (assigned (goal_word p n) r w q) a l =
+assign_traced i x s e (assigned (target_word p n) r w q) a l =
     goes i (assign_row ++ x) s (name_mark p n) ((sign fixed.Assign r ∷ (tokens w ++ sign fixed.Semi q ∷ [])) ++ l) (e _) ∙ ap (count (held (x ++ s))) (value_traced r w q a.1 (x ++ s) l)
-assign_traced i x s e (assigned (goal_field p n y z f) r w q) a l =
+assign_traced i x s e (assigned (target_field p n y z f) r w q) a l =
     goes i (assign_row ++ x) s (name_mark p n) (sign fixed.Dot y ∷ name_mark z f ∷ ((sign fixed.Assign r ∷ (tokens w ++ sign fixed.Semi q ∷ [])) ++ l)) (e _) ∙ ap (λ (t : Trace). count (held (x ++ s)) (count (held (x ++ s)) (count (held (x ++ s)) t))) (value_traced r w q a.1 (x ++ s) l)
-assign_traced i x s e (assigned (goal_index p n y v z) r w q) a l =
+assign_traced i x s e (assigned (target_index p n y v z) r w q) a l =
     let value = sign fixed.Assign r ∷ (tokens w ++ sign fixed.Semi q ∷ []) in
     let after : List Item = term fixed.Assign ∷ level top ∷ term fixed.Semi ∷ (x ++ s) in
     goes i (assign_row ++ x) s (name_mark p n) (sign fixed.OpenBracket y ∷ (((tokens v ++ sign fixed.CloseBracket z ∷ []) ++ value) ++ l)) (e _)
@@ -53,9 +54,9 @@ condition_traced w a r s z l =
 -- no statement begins with `else`, nor does what follows it in a block
 pub starts_ok : (b : Stmts) (q : ℕ) (l : List Mark) → Refused item.else_part ((stmts_tokens b ++ sign fixed.CloseBrace q ∷ []) ++ l)
 starts_ok no_more q l = refl
-starts_ok (then_stmt (an_assign (assigned (goal_word p n) r w z)) b) q l = refl
-starts_ok (then_stmt (an_assign (assigned (goal_field p n x y f) r w z)) b) q l = refl
-starts_ok (then_stmt (an_assign (assigned (goal_index p n x v y) r w z)) b) q l = refl
+starts_ok (then_stmt (an_assign (assigned (target_word p n) r w z)) b) q l = refl
+starts_ok (then_stmt (an_assign (assigned (target_field p n x y f) r w z)) b) q l = refl
+starts_ok (then_stmt (an_assign (assigned (target_index p n x v y) r w z)) b) q l = refl
 starts_ok (then_stmt (an_if p x w r c e) b) q l = refl
 
 mutual
@@ -198,13 +199,13 @@ within (n ∷ ns) p e = go (nat_le n limit) refl e (λ f. within ns (p + 1) f)
     go false q f rec = absurd (cc)
 
 -- what is spelled without a problem keeps to the limit
-pub keeps : (p : ProgramForm) (l : List Token) → Spells p l → problem 0 (trace whole (map mark l)) ≡ None → IsSpelled p l
+pub keeps : (p : ProgramForm) (l : List Token) → Spells p l → problem 0 (trace whole (map mark l)) ≡ None → SpellsWithin p l
 keeps p l s e =
     let f : problem 0 (counted (program_opens s.0) fine) ≡ None = ap (problem 0) (sym (program_traced s.0 s.1) ∙ ap (trace whole) s.2) ∙ e in
     (s.0, s.1, s.2, s.3, within (program_opens s.0) 0 f)
 
 -- where there is a problem no program is spelled within the limit
-pub excludes : (p : ProgramForm) (l : List Token) (x : Problem) → problem 0 (trace whole (map mark l)) ≡ Some x → IsSpelled p l → ⊥
+pub excludes : (p : ProgramForm) (l : List Token) (x : Problem) → problem 0 (trace whole (map mark l)) ≡ Some x → SpellsWithin p l → ⊥
 excludes p l x e s =
     let f : problem 0 (trace whole (map mark l)) ≡ None = ap (λ (k : List Mark). problem 0 (trace whole k)) (sym s.2) ∙ ap (problem 0) (program_traced s.0 s.1) ∙ no_problem (program_opens s.0) 0 s.4 in
     let g : None ≡ Some x = sym f ∙ e in
@@ -212,8 +213,8 @@ excludes p l x e s =
 
 -- the same for the parser's answers
 
-pub parsed : (p : ProgramForm) (l m : List Token) → m ≡ l → ReadsWhole p m → IsSpelled p l
-parsed p l m e r = subst (λ (x : List Token). IsSpelled p x) e (keeps p m r.spelled r.reads)
+pub parsed : (p : ProgramForm) (l m : List Token) → m ≡ l → ReadsWhole p m → SpellsWithin p l
+parsed p l m e r = subst (λ (x : List Token). SpellsWithin p x) e (keeps p m r.spelled r.reads)
 
 spells_none : (l : List Token) (end : ℕ) (f : Fault) → FailsWholeBy whole l 0 f → SpellsNone l (located_at l end f)
 spells_none l end (place.Unexpected q) a = go (stands l q)

@@ -5,10 +5,10 @@ use Rattle.dom_ast.specs.Form.{ProgramForm}
 use Rattle.dom_parser.specs.declared.faults.ParseFault.{ParseFault}
 use Rattle.dom_parser.specs.declared.faults.ParseFault.TheVariants as answer
 use Rattle.dom_parser.specs.Faults.{IsFirstFault}
-use Rattle.dom_parser.specs.Grammar.{IsSpelled}
+use Rattle.dom_parser.specs.Grammar.{SpellsWithin}
 
 -- in a text of `end` bytes these tokens spell a program within the limit, or have a first fault other than want of memory
 abbrev pub HasAnswer : List Token → ℕ → Type 0
 HasAnswer tokens end =
-    ((program : ProgramForm) × IsSpelled program tokens)
+    ((program : ProgramForm) × SpellsWithin program tokens)
     ⊎ ((fault : ParseFault) × IsFirstFault tokens end fault × (fault ≡ answer.Memory → ⊥))

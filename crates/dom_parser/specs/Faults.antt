@@ -9,7 +9,7 @@ use Rattle.dom_parser.specs.declared.faults.ParseFault.TheVariants as answer
 use Rattle.dom_parser.specs.declared.kinds.Kind.{Kind}
 use Rattle.dom_parser.specs.declared.kinds.Kind.TheVariants as kind
 use Rattle.dom_parser.specs.Tokens.{Mark, mark, stands, offset_at, ahead, is_minus, number_first}
-use Rattle.dom_parser.specs.Grammar.{Program, IsProgram, program_tokens, program_opens, IsSpelled, IsViable, Spells}
+use Rattle.dom_parser.specs.Grammar.{Program, IsProgram, program_tokens, program_opens, most_open, SpellsWithin, BeginProgram, Spells}
 
 -- the fault at a token of this kind and at this offset, in a text of `end` bytes
 abbrev pub unexpected_at : Kind → ℕ → ℕ → ParseFault
@@ -30,11 +30,11 @@ pub record BeginsWith (l : List Token) (p : ℕ) (way : Program) : Type 0 where
   pub front : program_tokens way ≡ map mark (take (suc p) l) ++ rest
   pub operator : is_minus (stands l p) ≡ true → number_first rest ≡ false
 
--- of these numbers of open constructs the first over 64 stands at place p, and is 65
+-- of these numbers of open constructs the first that is too great stands at place p, and is one too great
 abbrev pub IsFirstOver : ℕ → List ℕ → Type 0
 IsFirstOver p [] = ⊥
-IsFirstOver zero (n ∷ ns) = n ≡ 65
-IsFirstOver (suc p) (n ∷ ns) = (n ≤ 64) × IsFirstOver p ns
+IsFirstOver zero (n ∷ ns) = n ≡ suc most_open
+IsFirstOver (suc p) (n ∷ ns) = (n ≤ most_open) × IsFirstOver p ns
 
 -- The token at p is the first that opens a construct while 64 are open: some program begins with the tokens up to it, and in
 -- each that does, 65 constructs are open there and no more than 64 before. A "-" opens one only where no number comes next.
@@ -48,9 +48,9 @@ pub record OpensTooMany (l : List Token) (p : ℕ) : Type 0 where
 -- front, and all tokens together spell no program.
 pub record RulesOut (l : List Token) (p : ℕ) : Type 0 where
   pub there : p ≤ length l
-  pub before : IsViable (take p l)
+  pub before : BeginProgram (take p l)
   pub within : (q : ℕ) → q < p → OpensTooMany l q → ⊥
-  pub with_it : p < length l → IsViable (take (suc p) l) → ⊥
+  pub with_it : p < length l → BeginProgram (take (suc p) l) → ⊥
   pub together : (f : ProgramForm) → Spells f l → ⊥
 
 -- what a fault at a token says of the fronts of programs
@@ -68,6 +68,6 @@ pub record IsFirstFault (l : List Token) (end : ℕ) (f : ParseFault) : Type 0 w
 -- the tokens spell no program within the limit, unless memory was wanting
 abbrev pub SpellsNone : List Token → ParseFault → Type 0
 SpellsNone l answer.Memory = Unit {0}
-SpellsNone l (answer.Forbidden p) = (p : ProgramForm) → IsSpelled p l → ⊥
-SpellsNone l (answer.Unexpected p) = (p : ProgramForm) → IsSpelled p l → ⊥
-SpellsNone l (answer.TooNested p) = (p : ProgramForm) → IsSpelled p l → ⊥
+SpellsNone l (answer.Forbidden p) = (p : ProgramForm) → SpellsWithin p l → ⊥
+SpellsNone l (answer.Unexpected p) = (p : ProgramForm) → SpellsWithin p l → ⊥
+SpellsNone l (answer.TooNested p) = (p : ProgramForm) → SpellsWithin p l → ⊥

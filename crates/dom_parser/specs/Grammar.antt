@@ -208,51 +208,51 @@ abbrev mutual
   more_arg_opens n (next_arg p w m) = n ∷ (opens n w ++ more_arg_opens n m)
 
 -- Target = Name | Name "." Name | Name "[" Expr "]"
-pub data Goal : Type 0 where
-  goal_word : ℕ → List ℕ → Goal
-  goal_field : ℕ → List ℕ → ℕ → ℕ → List ℕ → Goal
-  goal_index : ℕ → List ℕ → ℕ → Way → ℕ → Goal
+pub data TargetWay : Type 0 where
+  target_word : ℕ → List ℕ → TargetWay
+  target_field : ℕ → List ℕ → ℕ → ℕ → List ℕ → TargetWay
+  target_index : ℕ → List ℕ → ℕ → Way → ℕ → TargetWay
 
-abbrev pub IsGoal : Goal → Type 0
-IsGoal (goal_index p n q w r) = IsAt top w
-IsGoal _ = Unit {0}
+abbrev pub IsTarget : TargetWay → Type 0
+IsTarget (target_index p n q w r) = IsAt top w
+IsTarget _ = Unit {0}
 
-abbrev pub goal_tokens : Goal → List Mark
-goal_tokens (goal_word p n) = name_mark p n ∷ []
-goal_tokens (goal_field p n q r f) = name_mark p n ∷ sign fixed.Dot q ∷ name_mark r f ∷ []
-goal_tokens (goal_index p n q w r) = name_mark p n ∷ sign fixed.OpenBracket q ∷ (tokens w ++ sign fixed.CloseBracket r ∷ [])
+abbrev pub target_tokens : TargetWay → List Mark
+target_tokens (target_word p n) = name_mark p n ∷ []
+target_tokens (target_field p n q r f) = name_mark p n ∷ sign fixed.Dot q ∷ name_mark r f ∷ []
+target_tokens (target_index p n q w r) = name_mark p n ∷ sign fixed.OpenBracket q ∷ (tokens w ++ sign fixed.CloseBracket r ∷ [])
 
-abbrev pub goal_tree : Goal → TargetForm
-goal_tree (goal_word p n) = to_word n
-goal_tree (goal_field p n q r f) = to_field n r f
-goal_tree (goal_index p n q w r) = to_index n (tree w)
+abbrev pub target_tree : TargetWay → TargetForm
+target_tree (target_word p n) = to_word n
+target_tree (target_field p n q r f) = to_field n r f
+target_tree (target_index p n q w r) = to_index n (tree w)
 
-abbrev pub goal_opens : ℕ → Goal → List ℕ
-goal_opens n (goal_word p m) = n ∷ []
-goal_opens n (goal_field p m q r f) = n ∷ n ∷ n ∷ []
-goal_opens n (goal_index p m q w r) = n ∷ suc n ∷ (opens (suc n) w ++ suc n ∷ [])
+abbrev pub target_opens : ℕ → TargetWay → List ℕ
+target_opens n (target_word p m) = n ∷ []
+target_opens n (target_field p m q r f) = n ∷ n ∷ n ∷ []
+target_opens n (target_index p m q w r) = n ∷ suc n ∷ (opens (suc n) w ++ suc n ∷ [])
 
 -- where a target starts
-abbrev pub first_place : Goal → ℕ
-first_place (goal_word p n) = p
-first_place (goal_field p n q r f) = p
-first_place (goal_index p n q w r) = p
+abbrev pub first_place : TargetWay → ℕ
+first_place (target_word p n) = p
+first_place (target_field p n q r f) = p
+first_place (target_index p n q w r) = p
 
 -- Assign = Target "=" Expr ";"
 pub data Assign : Type 0 where
-  assigned : Goal → ℕ → Way → ℕ → Assign
+  assigned : TargetWay → ℕ → Way → ℕ → Assign
 
 abbrev pub IsAssign : Assign → Type 0
-IsAssign (assigned g p w q) = IsGoal g × IsAt top w
+IsAssign (assigned g p w q) = IsTarget g × IsAt top w
 
 abbrev pub assign_tokens : Assign → List Mark
-assign_tokens (assigned g p w q) = goal_tokens g ++ sign fixed.Assign p ∷ (tokens w ++ sign fixed.Semi q ∷ [])
+assign_tokens (assigned g p w q) = target_tokens g ++ sign fixed.Assign p ∷ (tokens w ++ sign fixed.Semi q ∷ [])
 
 abbrev pub assign_tree : Assign → StmtForm
-assign_tree (assigned g p w q) = assign (first_place g) (goal_tree g) (tree w)
+assign_tree (assigned g p w q) = assign (first_place g) (target_tree g) (tree w)
 
 abbrev pub assign_opens : ℕ → Assign → List ℕ
-assign_opens n (assigned g p w q) = goal_opens n g ++ n ∷ (opens n w ++ n ∷ [])
+assign_opens n (assigned g p w q) = target_opens n g ++ n ∷ (opens n w ++ n ∷ [])
 
 -- Statement = Assign | "if" "(" Expr ")" Body [ "else" ElseBody ], Body = Block | Assign, ElseBody = Block | Statement,
 -- Block = "{" { Statement } "}"
@@ -577,15 +577,19 @@ program_opens (program d s e t ts) = decls_opens 0 d ++ (struct_opens 0 s ++ (de
 abbrev pub Spells : ProgramForm → List Token → Type 0
 Spells p l = (way : Program) × IsProgram way × (program_tokens way ≡ map mark l) × (program_tree way ≡ p)
 
--- no more than 64 constructs are open at any token
+-- so many constructs may be open at a token
+abbrev pub most_open : ℕ
+most_open = 64
+
+-- no more constructs are open at any token
 abbrev pub AreWithin : List ℕ → Type 0
 AreWithin [] = Unit {0}
-AreWithin (n ∷ ns) = (n ≤ 64) × AreWithin ns
+AreWithin (n ∷ ns) = (n ≤ most_open) × AreWithin ns
 
--- the tokens spell the program, with no more than 64 constructs open at any of them
-abbrev pub IsSpelled : ProgramForm → List Token → Type 0
-IsSpelled p l = (way : Program) × IsProgram way × (program_tokens way ≡ map mark l) × (program_tree way ≡ p) × AreWithin (program_opens way)
+-- the tokens spell the program, with no more constructs open at any of them
+abbrev pub SpellsWithin : ProgramForm → List Token → Type 0
+SpellsWithin p l = (way : Program) × IsProgram way × (program_tokens way ≡ map mark l) × (program_tree way ≡ p) × AreWithin (program_opens way)
 
 -- some program begins with the tokens
-abbrev pub IsViable : List Token → Type 0
-IsViable l = (way : Program) × IsProgram way × (rest : List Mark) × (program_tokens way ≡ map mark l ++ rest)
+abbrev pub BeginProgram : List Token → Type 0
+BeginProgram l = (way : Program) × IsProgram way × (rest : List Mark) × (program_tokens way ≡ map mark l ++ rest)

@@ -100,11 +100,7 @@ pub record Mark : Type 0 where
 abbrev pub mark : Token → Mark
 mark t = record { place = t.at; kind = token_kind t.kind; text = name_text (token_kind t.kind) (word_text t.kind) }
 
--- the tokens from a place on
-abbrev pub rest : List Token → ℕ → List Mark
-rest l n = map mark (drop n l)
-
--- what stands at a place, its offset, and the bytes of a word there
+-- what stands at a place, and its offset
 abbrev pub kind_in : Option Token → Kind
 kind_in None = kind.End
 kind_in (Some t) = token_kind t.kind
@@ -118,13 +114,6 @@ offset_in (Some t) = t.at
 
 abbrev pub offset_at : List Token → ℕ → ℕ
 offset_at l n = offset_in (slice_get l n)
-
-abbrev pub text_in : Option Token → List ℕ
-text_in None = []
-text_in (Some t) = word_text t.kind
-
-abbrev pub text_at : List Token → ℕ → List ℕ
-text_at l n = text_in (slice_get l n)
 
 -- the level of an operator in the grammar: the higher, the more weakly it binds
 abbrev pub rank_of : BinOp → ℕ
@@ -147,59 +136,6 @@ rank_of bin.BitOr = 8
 rank_of bin.And = 9
 rank_of bin.Or = 10
 
--- a number for each own word and symbol, by which they are compared
-abbrev pub fixed_number : Fixed → ℕ
-fixed_number fixed.Struct = 0
-fixed_number fixed.Int = 1
-fixed_number fixed.Void = 2
-fixed_number fixed.If = 3
-fixed_number fixed.Else = 4
-fixed_number fixed.Define = 5
-fixed_number fixed.Assign = 6
-fixed_number fixed.Question = 7
-fixed_number fixed.Colon = 8
-fixed_number fixed.Semi = 9
-fixed_number fixed.Comma = 10
-fixed_number fixed.Dot = 11
-fixed_number fixed.OpenParen = 12
-fixed_number fixed.CloseParen = 13
-fixed_number fixed.OpenBracket = 14
-fixed_number fixed.CloseBracket = 15
-fixed_number fixed.OpenBrace = 16
-fixed_number fixed.CloseBrace = 17
-fixed_number fixed.Hash = 18
-
--- whether this own word or symbol stands there
-abbrev pub is_fixed : Fixed → Kind → Bool
-is_fixed f (kind.Fixed g) = nat_eq (fixed_number g) (fixed_number f)
-is_fixed f _ = false
-
-abbrev pub is_name : Kind → Bool
-is_name kind.Name = true
-is_name _ = false
-
--- the number there, if it is one
-abbrev pub number_of : Kind → Option ℕ
-number_of (kind.Number n) = Some n
-number_of _ = None
-
--- the operator of this level there, if it is one
-abbrev pub operator_of : ℕ → Kind → Option BinOp
-operator_of n (kind.Operator o) = if nat_eq (rank_of o) n then Some o else None
-operator_of n _ = None
-
--- `-` before an operand
-abbrev pub negation : BinOp → Option UnOp
-negation bin.Sub = Some un.Neg
-negation _ = None
-
--- the operator before an operand there, if it is one
-abbrev pub unary_of : Kind → Option UnOp
-unary_of (kind.Operator o) = negation o
-unary_of kind.Inv = Some un.Inv
-unary_of kind.Not = Some un.Not
-unary_of _ = None
-
 -- whether a "-" or a number stands there
 abbrev pub is_minus : Kind → Bool
 is_minus (kind.Operator bin.Sub) = true
@@ -216,19 +152,3 @@ number_first (t ∷ l) = is_number t.kind
 
 abbrev pub ahead : List Token → ℕ → Bool
 ahead l p = is_number (stands l (p + 1))
-
--- a fact where the test is passed
-abbrev pub Where : Bool → Type 0 → Type 0
-Where true P = P
-Where false P = Unit {0}
-
--- whether a token stands there
-abbrev pub is_there : Kind → Bool
-is_there kind.End = false
-is_there kind.Name = true
-is_there (kind.Number w) = true
-is_there (kind.Fixed f) = true
-is_there kind.Inv = true
-is_there kind.Not = true
-is_there (kind.Operator o) = true
-is_there kind.Forbidden = true

@@ -3,10 +3,11 @@ ghost use Rattle.dom_ast.specs.Form.{choice as choice_form, form, forms, index a
 ghost use Rattle.dom_parser.specs.declared.kinds.Begin.TheVariants as begin;
 ghost use Rattle.dom_parser.specs.declared.kinds.Fixed.TheVariants as fixed;
 ghost use Rattle.dom_parser.specs.declared.kinds.Suffix.TheVariants as suffix;
-ghost use Rattle.dom_parser.specs.Tokens.{is_fixed as is_fixed_kind, offset_at, stands, text_at as text_there, unary_of};
+ghost use Rattle.dom_parser.specs.inner.AtPlace.{is_fixed as is_fixed_kind, text_at as text_there, unary_of};
+ghost use Rattle.dom_parser.specs.Tokens.{offset_at, stands};
 ghost use Rattle.dom_parser.specs.Grammar.{top};
-ghost use Rattle.dom_parser.specs.Following.{begin_of, level, limit, name_rest, suffix_of};
-ghost use Rattle.dom_parser.specs.Reads.{FailsBy, FailsIn, Reads, ReadsArgs, ReadsIn, SpellsExpr, negated_in};
+ghost use Rattle.dom_parser.specs.inner.Following.{begin_of, level, limit, name_rest, suffix_of};
+ghost use Rattle.dom_parser.specs.inner.Reads.{FailsBy, FailsIn, Reads, ReadsArgs, ReadsIn, SpellsExpr, negated_in};
 
 use crate::faults::{Fault, MOST_OPEN};
 use crate::kinds::{

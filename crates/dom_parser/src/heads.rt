@@ -1,11 +1,12 @@
 ghost use Rattle.std.specs.Prelude.{◌≡◌, ◌+◌, ◌-◌, ◌%◌, ◌^◌, ◌<◌, ◌≤◌, ◌++◌, [], ◌∷◌, IfErr, IfOk, OnOk, length, true};
 ghost use Rattle.dom_parser.specs.declared.kinds.Declared.TheVariants as declared;
 ghost use Rattle.dom_parser.specs.declared.kinds.Fixed.TheVariants as fixed;
-ghost use Rattle.dom_parser.specs.Tokens.{Where, is_fixed as fixed_is, stands};
-ghost use Rattle.dom_parser.specs.Following as item;
-ghost use Rattle.dom_parser.specs.Following.{declared_of, declares};
-ghost use Rattle.dom_parser.specs.Reads.{FailsBy, Passes, Reads};
-ghost use Rattle.dom_parser.specs.HeadReads.{FailsAny, FailsField, ReadsAny, ReadsDecls, ReadsField, ReadsFields, SpellsConstant, SpellsDecl, SpellsSize, SpellsSizePart, SpellsStart, SpellsStartPart, SpellsStruct, SpellsValue};
+ghost use Rattle.dom_parser.specs.inner.AtPlace.{Where, is_fixed as fixed_is};
+ghost use Rattle.dom_parser.specs.Tokens.{stands};
+ghost use Rattle.dom_parser.specs.inner.Following as item;
+ghost use Rattle.dom_parser.specs.inner.Following.{declared_of, declares};
+ghost use Rattle.dom_parser.specs.inner.Reads.{FailsBy, Passes, Reads};
+ghost use Rattle.dom_parser.specs.inner.HeadReads.{FailsAny, FailsField, ReadsAny, ReadsDecls, ReadsField, ReadsFields, SpellsConstant, SpellsDecl, SpellsSize, SpellsSizePart, SpellsStart, SpellsStartPart, SpellsStruct, SpellsValue};
 
 use crate::faults::Fault;
 use crate::kinds::{

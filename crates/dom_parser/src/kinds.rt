@@ -1,6 +1,7 @@
 ghost use Rattle.std.specs.Prelude.{◌≡◌, ◌<◌, IfErr, IfOk, IfSome, length};
-ghost use Rattle.dom_parser.specs.Following.{begin_of, begins_operand, declared_of, declares, goes_on, lead_of, leads, suffix_of};
-ghost use Rattle.dom_parser.specs.Tokens.{Where, found_in, is_fixed as fixed_is, is_name as name_is, is_there, number_of, offset_at, operator_of, own_kinds, rank_of, stands, symbol_kind as kind_of_symbol, text_at as text_there, token_kind, unary_of, word_kind as kind_of_word, is_minus as minus_is};
+ghost use Rattle.dom_parser.specs.inner.Following.{begin_of, begins_operand, declared_of, declares, goes_on, lead_of, leads, suffix_of};
+ghost use Rattle.dom_parser.specs.inner.AtPlace.{Where, is_fixed as fixed_is, is_name as name_is, is_there, number_of, operator_of, text_at as text_there, unary_of};
+ghost use Rattle.dom_parser.specs.Tokens.{found_in, offset_at, own_kinds, rank_of, stands, symbol_kind as kind_of_symbol, token_kind, word_kind as kind_of_word, is_minus as minus_is};
 
 use crate::faults::Fault;
 use dom_lexer::{Sym, Token, TokenKind};

@@ -1,15 +1,16 @@
 ghost use Rattle.std.specs.Prelude.{◌≡◌, ◌+◌, ◌<◌, ◌≤◌, ◌++◌, [], ◌∷◌, IfErr, IfOk, OnOk, length, map, true};
 ghost use Rattle.dom_ast.specs.Form.{guard_form, program_form, transaction_form};
 ghost use Rattle.dom_parser.specs.declared.kinds.Fixed.TheVariants as fixed;
-ghost use Rattle.dom_parser.specs.Tokens.{is_fixed as fixed_is, is_name as name_is, stands};
-ghost use Rattle.dom_parser.specs.Grammar.{IsSpelled};
+ghost use Rattle.dom_parser.specs.inner.AtPlace.{is_fixed as fixed_is, is_name as name_is};
+ghost use Rattle.dom_parser.specs.Tokens.{stands};
+ghost use Rattle.dom_parser.specs.Grammar.{SpellsWithin};
 ghost use Rattle.dom_ast.specs.CheckedForm.{has_one_struct};
 ghost use Rattle.dom_ast.specs.Size.{program_nested, program_nodes};
 ghost use Rattle.dom_parser.specs.Faults.{IsFirstFault, SpellsNone, located_at};
-ghost use Rattle.dom_parser.specs.Following as item;
-ghost use Rattle.dom_parser.specs.Following.{whole};
-ghost use Rattle.dom_parser.specs.Reads.{FailsBy, Passes};
-ghost use Rattle.dom_parser.specs.HeadReads.{FailsRowBy, FailsWholeBy, ReadsHeader, ReadsHeads, ReadsTransaction, ReadsTransactions, ReadsWhole, SpellsGuard, transaction_row};
+ghost use Rattle.dom_parser.specs.inner.Following as item;
+ghost use Rattle.dom_parser.specs.inner.Following.{whole};
+ghost use Rattle.dom_parser.specs.inner.Reads.{FailsBy, Passes};
+ghost use Rattle.dom_parser.specs.inner.HeadReads.{FailsRowBy, FailsWholeBy, ReadsHeader, ReadsHeads, ReadsTransaction, ReadsTransactions, ReadsWhole, SpellsGuard, transaction_row};
 
 use crate::faults::{Fault, ParseFault};
 use crate::heads::{add as add_head, declarations, structure};
@@ -24,7 +25,7 @@ use std::alloc::Global;
 /// program has no more statements and expression nodes than there are tokens, and its `if`s are nested at most 64 deep,
 /// where a guard counts as one nesting. It has one struct, and that has a field.
 pub fn parse(alloc: Global, tokens: &Tokens) -> Result<Program, ParseFault>
-    ensures ok { IfOk result (λ p. IsSpelled (program_form p) tokens.now.items) }
+    ensures ok { IfOk result (λ p. SpellsWithin (program_form p) tokens.now.items) }
     ensures nodes { IfOk result (λ p. program_nodes (program_form p) ≤ length tokens.now.items) }
     ensures nested { IfOk result (λ p. program_nested 64 (program_form p) ≡ true) }
     ensures one_struct { IfOk result (λ p. has_one_struct (program_form p).heads ≡ true) }

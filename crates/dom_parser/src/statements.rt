@@ -1,10 +1,11 @@
 ghost use Rattle.std.specs.Prelude.{◌≡◌, ◌+◌, ◌-◌, ◌<◌, ◌≤◌, ◌++◌, [], ◌∷◌, IfErr, IfOk, OnOk, length};
 ghost use Rattle.dom_ast.specs.Form.{form, stmt_form, stmt_forms, target_form};
 ghost use Rattle.dom_parser.specs.declared.kinds.Lead.TheVariants as lead;
-ghost use Rattle.dom_parser.specs.Tokens.{Where, stands};
-ghost use Rattle.dom_parser.specs.Following as item;
-ghost use Rattle.dom_parser.specs.Following.{begins, lead_of, limit};
-ghost use Rattle.dom_parser.specs.Reads.{FailsBy, Passes, Reads, ReadsGoal, SpellsAssign, SpellsBlock, SpellsBody, SpellsCondition, SpellsElse, SpellsStmt};
+ghost use Rattle.dom_parser.specs.inner.AtPlace.{Where};
+ghost use Rattle.dom_parser.specs.Tokens.{stands};
+ghost use Rattle.dom_parser.specs.inner.Following as item;
+ghost use Rattle.dom_parser.specs.inner.Following.{begins, lead_of, limit};
+ghost use Rattle.dom_parser.specs.inner.Reads.{FailsBy, Passes, Reads, ReadsTarget, SpellsAssign, SpellsBlock, SpellsBody, SpellsCondition, SpellsElse, SpellsStmt};
 
 use crate::expressions::{enclosed, expression};
 use crate::faults::{Fault, MOST_OPEN};
@@ -211,7 +212,7 @@ fn target(alloc: Global, tokens: &[Token], at: usize, depth: u32) -> Result<(Tar
     requires depth { depth ≤ limit }
     requires within { at < length tokens.now }
     requires lead { lead_of (stands tokens.now at) ≡ lead.Assign }
-    ensures ok { IfOk result (λ r. ReadsGoal depth tokens.now at r.1 (target_form r.0)) }
+    ensures ok { IfOk result (λ r. ReadsTarget depth tokens.now at r.1 (target_form r.0)) }
     ensures err { IfErr result (λ f. FailsBy item.target_rest depth tokens.now (at + 1) f) }
 {
     match suffix_at(tokens, at + 1) {

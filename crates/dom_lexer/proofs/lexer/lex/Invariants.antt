@@ -1,5 +1,5 @@
 use Rattle.std.proofs.Common.{length, ◌-◌}
-use Rattle.dom_lexer.specs.Reads.{SoFar}
+use Rattle.dom_lexer.proofs.SoFar.{SoFar}
 use Rattle.dom_lexer.proofs.lexer.lex.Given as goal
 
 abbrev pub invariant-pieces : goal.invariant-pieces

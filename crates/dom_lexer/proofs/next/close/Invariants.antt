@@ -1,6 +1,6 @@
 use Rattle.std.proofs.Common.{length, ◌-◌, ◌≡◌, ◌≤◌, drop}
-use Rattle.dom_lexer.specs.Next.{close_len}
-use Rattle.dom_lexer.specs.Reads.{plus}
+use Rattle.dom_lexer.specs.inner.Next.{close_len}
+use Rattle.dom_lexer.proofs.SoFar.{plus}
 use Rattle.dom_lexer.proofs.next.close.Given as goal
 
 abbrev pub invariant-bytes : goal.invariant-bytes

@@ -1,7 +1,7 @@
 use Rattle.std.proofs.Common.{sym, ◌∙◌, arith}
 use Rattle.dom_ast.specs.Form.{form}
 use Rattle.dom_parser.specs.Grammar.{top}
-use Rattle.dom_parser.specs.Following.{level}
+use Rattle.dom_parser.specs.inner.Following.{level}
 use Rattle.dom_parser.proofs.Exprs.{fails_lower, fails_first, level_next, level_fails, level_one, plain_choice, choice_deep, choice_fails, choice_colon, choice_other, full_choice, operated_deep, operated_fails, fails_other, reads_parens, fails_parens, reads_index, fails_index, fails_call, in_deep, in_fails, in_open, in_closed, args_deep, reads_empty, args_fail, args_start, args_next, args_next_fails, args_open, args_closed, as_form, number_read, negated_read, word_read, call_read, operated_read, chain_read}
 use Rattle.dom_parser.proofs.expressions.+expressions.Goals as goal
 

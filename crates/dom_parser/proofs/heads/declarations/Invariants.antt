@@ -1,5 +1,5 @@
 use Rattle.std.proofs.Common.{◌-◌, length}
-use Rattle.dom_parser.specs.HeadReads.{DeclsSoFar}
+use Rattle.dom_parser.proofs.SoFar.{DeclsSoFar}
 use Rattle.dom_parser.proofs.heads.declarations.Given as goal
 
 abbrev pub invariant-declarations : goal.invariant-declarations

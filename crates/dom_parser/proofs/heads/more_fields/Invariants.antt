@@ -1,5 +1,5 @@
 use Rattle.std.proofs.Common.{◌-◌, length}
-use Rattle.dom_parser.specs.HeadReads.{FieldsSoFar}
+use Rattle.dom_parser.proofs.SoFar.{FieldsSoFar}
 use Rattle.dom_parser.proofs.heads.more_fields.Given as goal
 
 abbrev pub invariant-fields : goal.invariant-fields

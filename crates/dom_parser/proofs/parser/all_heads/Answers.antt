@@ -1,7 +1,7 @@
 use Rattle.std.proofs.Common.{subst}
 use Rattle.std.specs.Prelude.{List}
 use Rattle.dom_ast.specs.declared.program.Head.{Head}
-use Rattle.dom_parser.specs.HeadReads.{ReadsDecls}
+use Rattle.dom_parser.specs.inner.HeadReads.{ReadsDecls}
 use Rattle.dom_parser.proofs.Transactions.{heads_before, heads_struct, heads_after, reads_heads}
 use Rattle.dom_parser.proofs.parser.all_heads.Goals as goal
 

@@ -1,6 +1,6 @@
 use Rattle.std.proofs.Common.{◌-◌, length, map}
 use Rattle.dom_ast.specs.Form.{transaction_form}
-use Rattle.dom_parser.specs.HeadReads.{TransactionsSoFar}
+use Rattle.dom_parser.proofs.SoFar.{TransactionsSoFar}
 use Rattle.dom_parser.proofs.parser.more_transactions.Given as goal
 
 abbrev pub invariant-transactions : goal.invariant-transactions

@@ -1,6 +1,6 @@
 use Rattle.std.proofs.Common.{◌+◌, ◌-◌, ◌*◌, map, length}
 use Rattle.dom_ast.specs.Form.{stmt_form}
-use Rattle.dom_parser.specs.Reads.{StmtsSoFar}
+use Rattle.dom_parser.proofs.SoFar.{StmtsSoFar}
 use Rattle.dom_parser.proofs.statements.+statements.Given as goal
 
 abbrev pub decreases-block : goal.decreases-block

@@ -1,6 +1,6 @@
 use Rattle.std.proofs.Common.{sym}
 use Rattle.dom_ast.specs.Form.{target_form}
-use Rattle.dom_parser.proofs.Stmts.{goal_fails, no_equals, value_fails, no_semi, assign_read}
+use Rattle.dom_parser.proofs.Stmts.{target_fails, no_equals, value_fails, no_semi, assign_read}
 use Rattle.dom_parser.proofs.statements.assignment.Goals as goal
 
 pub returns-then-not-is_fixed-clause-err : goal.returns-then-not-is_fixed-clause-err
@@ -21,4 +21,4 @@ returns-in-Err-expression-clause-err c =
 
 pub returns-in-Err-clause-err : goal.returns-in-Err-clause-err
 returns-in-Err-clause-err c =
-    goal_fails c.args.depth c.args.tokens.now c.args.at c.in-Err.fault c.requires.depth c.requires.lead c.in-Err.ensures.err
+    target_fails c.args.depth c.args.tokens.now c.args.at c.in-Err.fault c.requires.depth c.requires.lead c.in-Err.ensures.err

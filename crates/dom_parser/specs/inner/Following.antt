@@ -17,8 +17,9 @@ use Rattle.dom_parser.specs.declared.kinds.Lead.{Lead}
 use Rattle.dom_parser.specs.declared.kinds.Lead.TheVariants as lead
 use Rattle.dom_parser.specs.declared.kinds.Declared.{Declared}
 use Rattle.dom_parser.specs.declared.kinds.Declared.TheVariants as declared
-use Rattle.dom_parser.specs.Tokens.{Mark, rest, is_fixed, is_name, is_minus, number_of, number_first, operator_of, unary_of}
-use Rattle.dom_parser.specs.Grammar.{top}
+use Rattle.dom_parser.specs.Tokens.{Mark, is_minus, number_first}
+use Rattle.dom_parser.specs.inner.AtPlace.{rest, is_fixed, is_name, number_of, operator_of, unary_of}
+use Rattle.dom_parser.specs.Grammar.{top, most_open}
 
 -- what may begin an operand that has no operator before it
 abbrev pub begin_fixed : Fixed → Begin
@@ -300,7 +301,7 @@ trace s (t ∷ l) = on_step (step s t.kind (number_first l)) (λ s. trace s l)
 
 -- so many constructs may be open
 abbrev pub limit : ℕ
-limit = 64
+limit = most_open
 
 -- a token that may not stand at a place, or one that opens one construct too many
 pub data Problem : Type 0 where

@@ -8,11 +8,12 @@ use Rattle.dom_ast.specs.Form.{ExprForm, TransactionForm, ProgramForm}
 use Rattle.dom_parser.specs.declared.faults.Fault.{Fault}
 use Rattle.dom_parser.specs.declared.faults.Fault.TheVariants.{Unexpected, TooNested, Memory}
 use Rattle.dom_parser.specs.declared.kinds.Fixed.TheVariants as fixed
-use Rattle.dom_parser.specs.Tokens.{Mark, rest, offset_at, text_at}
+use Rattle.dom_parser.specs.Tokens.{Mark, offset_at}
+use Rattle.dom_parser.specs.inner.AtPlace.{rest, text_at}
 use Rattle.dom_parser.specs.Grammar.{Spells, sign, name_mark, Constant, constant_tokens, constant_word, Value, value_tokens, value_tree, Start, start_tokens, start_tree, Size, size_tokens, size_tree, Decl, decl_tokens, decl_tree, Decls, decls_tokens, decls_trees, Fields, field_tokens, field_trees, Structure, struct_tokens, struct_tree, Guard, IsGuard, guard_tokens, guard_tree, Transaction, IsTransaction, transaction_tokens, transaction_tree, Transactions, AreTransactions, transactions_tokens, transaction_trees}
-use Rattle.dom_parser.specs.Following as item
-use Rattle.dom_parser.specs.Following.{Item, close, whole, Problem, bad, deep, held, limit, fault_from}
-use Rattle.dom_parser.specs.Reads.{FailsBy, Step}
+use Rattle.dom_parser.specs.inner.Following as item
+use Rattle.dom_parser.specs.inner.Following.{Item, close, whole, Problem, bad, deep, held, limit, fault_from}
+use Rattle.dom_parser.specs.inner.Reads.{FailsBy, Step}
 
 -- at any depth: the item is read from p to q, or fails
 pub record ReadsAny (i : Item) (Is : List Mark → Type 0) (l : List Token) (p q : ℕ) : Type 0 where
@@ -54,12 +55,6 @@ pub record ReadsDecls (l : List Token) (p q : ℕ) (before all : List Head) : Ty
   pub reads : Step item.decls 0 l p q
   pub spelled : (way : Decls) × (rest l p ≡ decls_tokens way ++ rest l q) × (before ++ decls_trees way ≡ all)
 
-pub record DeclsSoFar (l : List Token) (p next : ℕ) (before all : List Head) : Type 0 where
-  pub forth : p ≤ next
-  pub within : next ≤ length l
-  pub reads : (s : List Item) → held s ≡ 0 → fault_from l p (item.decls ∷ s) ≡ fault_from l next (item.decls ∷ s)
-  pub spelled : (q : Decls) (tail : List Mark) → rest l next ≡ decls_tokens q ++ tail → (way : Decls) × (rest l p ≡ decls_tokens way ++ tail) × (before ++ decls_trees way ≡ all ++ decls_trees q)
-
 -- the three tokens of a field, from its `int`
 pub record ReadsField (l : List Token) (p q : ℕ) (n : List ℕ) : Type 0 where
   pub within : p + 3 ≤ length l
@@ -80,12 +75,6 @@ pub record ReadsFields (l : List Token) (p q : ℕ) (fs : List (ℕ × List ℕ)
   pub within : q ≤ length l
   pub reads : Step item.field_block 0 l p q
   pub spelled : (o : ℕ) × (i : ℕ) × (r : ℕ) × (t : ℕ) × (c : ℕ) × (m : List ℕ) × (f : Fields) × (rest l p ≡ sign fixed.OpenBrace o ∷ sign fixed.Int i ∷ name_mark r m ∷ sign fixed.Semi t ∷ (field_tokens f ++ sign fixed.CloseBrace c ∷ rest l q)) × ((r, m) ∷ field_trees f ≡ fs)
-
-pub record FieldsSoFar (l : List Token) (p next : ℕ) (fs : List (ℕ × List ℕ)) : Type 0 where
-  pub forth : p + 4 ≤ next
-  pub within : next ≤ length l
-  pub reads : (s : List Item) → held s ≡ 0 → fault_from l p (item.field_block ∷ s) ≡ fault_from l next (item.fields ∷ close fixed.CloseBrace ∷ s)
-  pub spelled : (q : Fields) (tail : List Mark) → rest l next ≡ field_tokens q ++ tail → (o : ℕ) × (i : ℕ) × (r : ℕ) × (t : ℕ) × (m : List ℕ) × (f : Fields) × (rest l p ≡ sign fixed.OpenBrace o ∷ sign fixed.Int i ∷ name_mark r m ∷ sign fixed.Semi t ∷ (field_tokens f ++ tail)) × ((r, m) ∷ field_trees f ≡ fs ++ field_trees q)
 
 abbrev pub SpellsStruct : Head → List Mark → Type 0
 SpellsStruct h ts = (way : Structure) × (struct_tokens way ≡ ts) × (struct_tree way ≡ h)
@@ -122,13 +111,6 @@ pub record ReadsTransaction (l : List Token) (p q : ℕ) (t : TransactionForm) :
   pub within : q ≤ length l
   pub reads : (s : List Item) → held s ≡ 0 → fault_from l (p + 1) (transaction_row ++ s) ≡ fault_from l q s
   pub spelled : (way : Transaction) × IsTransaction way × (rest l p ≡ transaction_tokens way ++ rest l q) × (transaction_tree way ≡ t)
-
--- transactions, of which the first stands at p
-pub record TransactionsSoFar (l : List Token) (p next : ℕ) (ts : List TransactionForm) : Type 0 where
-  pub forth : p < next
-  pub within : next ≤ length l
-  pub reads : (s : List Item) → held s ≡ 0 → fault_from l p (item.term fixed.Void ∷ (transaction_row ++ item.transactions ∷ s)) ≡ fault_from l next (item.transactions ∷ s)
-  pub spelled : (q : Transactions) (tail : List Mark) → AreTransactions q → rest l next ≡ transactions_tokens q ++ tail → (w : Transaction) × (ws : Transactions) × IsTransaction w × AreTransactions ws × (rest l p ≡ transaction_tokens w ++ (transactions_tokens ws ++ tail)) × (transaction_tree w ∷ transaction_trees ws ≡ ts ++ transaction_trees q)
 
 pub record ReadsTransactions (l : List Token) (p q : ℕ) (ts : List TransactionForm) : Type 0 where
   pub within : q ≤ length l

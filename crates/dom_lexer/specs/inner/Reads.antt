@@ -1,6 +1,6 @@
 -- What the lexer's functions answer. Only proofs and contracts of private functions cite this.
-use Rattle.std.specs.Prelude.{◌≡◌, ℕ, ◌+◌, ◌<◌, ◌≤◌, List, [], ◌++◌, length, drop, Option, Some, None}
-use Rattle.dom_lexer.specs.Text.{Piece, token, bytes_of, spelling, Stands, Row, tokens_of, tokens_from, StartsNothing, StartsToken, StartsOpenComment, StartsBigNumber, StartsTouchedNumber, IsFault, IsFaultAt, most_tokens}
+use Rattle.std.specs.Prelude.{◌≡◌, ℕ, ◌+◌, ◌<◌, ◌≤◌, List, [], ◌++◌, length, drop}
+use Rattle.dom_lexer.specs.Text.{Piece, token, bytes_of, spelling, Stands, tokens_of, StartsNothing, StartsToken, StartsOpenComment, StartsBigNumber, StartsTouchedNumber, IsFaultAt, most_tokens}
 use Rattle.dom_lexer.specs.declared.token.TokenKind.{TokenKind}
 use Rattle.dom_lexer.specs.declared.token.TokenKind.TheVariants.{Word, Number, Sym as Sign}
 use Rattle.dom_lexer.specs.declared.token.Token.{Token}
@@ -75,20 +75,3 @@ OrMemory P Memory = Unit {0}
 -- the fault at the front of the rest of a text, which starts at an offset with so many tokens before it, or want of memory
 abbrev pub FaultHere : List ℕ → ℕ → ℕ → LexFault → Type 0
 FaultHere rest at count fault = OrMemory (IsFaultAt at count rest) fault
-
--- the first fault of a text, or want of memory
-abbrev pub IsFaultOrMemory : List ℕ → LexFault → Type 0
-IsFaultOrMemory text fault = OrMemory (IsFault text) fault
-
--- the pieces read so far
-pub record SoFar (text : List ℕ) (at : ℕ) (tokens : List Token) : Type 0 where
-  pub pieces : List Piece
-  pub within : at ≤ length text
-  pub row : Row pieces text (drop at text)
-  pub listed : tokens_from 0 pieces ≡ tokens
-  pub few : length tokens ≤ most_tokens
-
--- so many more
-abbrev pub plus : ℕ → Option ℕ → Option ℕ
-plus n None = None
-plus n (Some k) = Some (n + k)

@@ -1,5 +1,6 @@
 -- What the parser's functions read, and where they fail. Only proofs and contracts of private functions cite this.
 use Rattle.std.specs.Prelude.{◌≡◌, ℕ, ◌+◌, ◌-◌, ◌%◌, ◌^◌, ◌<◌, ◌≤◌, if◌then◌else◌, List, [], ◌∷◌, ◌++◌, Option, Some, None, length}
+use Rattle.dom_words.specs.Number.{negated}
 use Rattle.dom_words.specs.declared.operators.BinOp.{BinOp}
 use Rattle.dom_lexer.specs.declared.token.Token.{Token}
 use Rattle.dom_ast.specs.Form.{ExprForm, ExprForms, TargetForm, StmtForm, StmtForms}
@@ -10,9 +11,10 @@ use Rattle.dom_ast.specs.Form.{expr, stmt}
 use Rattle.dom_parser.specs.declared.kinds.Fixed.{Fixed}
 use Rattle.dom_parser.specs.declared.kinds.Fixed.TheVariants as fixed
 use Rattle.dom_parser.specs.declared.kinds.Kind.{Kind}
-use Rattle.dom_parser.specs.Tokens.{Mark, rest, stands, offset_at, number_of, ahead}
-use Rattle.dom_parser.specs.Grammar.{top, sign, Way, IsAt, tokens, tree, More, IsAfter, more_tokens, more_trees, Tail, and_op, Args, AreArgs, arg_tokens, arg_trees, MoreArgs, AreMoreArgs, more_arg_tokens, more_arg_trees, Goal, IsGoal, goal_tokens, goal_tree, first_place, Assign, IsAssign, assign_tokens, assign_tree, Stmts, AreStmts, stmts_tokens, stmts_trees, Stmt, IsStmt, stmt_tokens, stmt_tree, Body, IsBody, body_tokens, body_tree, Else, IsElse, else_tokens, else_tree}
-use Rattle.dom_parser.specs.Following.{Item, level, more, close, name_rest, more_args, target_rest, stmts, expand, is_neg, Problem, bad, deep, held, fault_from}
+use Rattle.dom_parser.specs.Tokens.{Mark, stands, offset_at, ahead}
+use Rattle.dom_parser.specs.inner.AtPlace.{rest, number_of}
+use Rattle.dom_parser.specs.Grammar.{top, sign, Way, IsAt, tokens, tree, More, IsAfter, more_tokens, more_trees, Tail, and_op, Args, AreArgs, arg_tokens, arg_trees, MoreArgs, AreMoreArgs, more_arg_tokens, more_arg_trees, TargetWay, IsTarget, target_tokens, target_tree, first_place, Assign, IsAssign, assign_tokens, assign_tree, Stmts, AreStmts, stmts_tokens, stmts_trees, Stmt, IsStmt, stmt_tokens, stmt_tree, Body, IsBody, body_tokens, body_tree, Else, IsElse, else_tokens, else_tree}
+use Rattle.dom_parser.specs.inner.Following.{Item, level, more, close, name_rest, more_args, target_rest, stmts, expand, is_neg, Problem, bad, deep, held, fault_from}
 
 -- where n constructs are open, the item has a fault
 pub record Fails (i : Item) (n : ℕ) (l : List Token) (p : ℕ) (f : Problem) : Type 0 where
@@ -44,24 +46,6 @@ pub record Passes (i : Item) (n : ℕ) (Is : List Mark → Type 0) (l : List Tok
 abbrev pub SpellsExpr : ℕ → ExprForm → List Mark → Type 0
 SpellsExpr k e ts = (way : Way) × IsAt k way × (tokens way ≡ ts) × (tree way ≡ e)
 
--- operators and operands before a tail
-abbrev pub with_ops : List (BinOp × ExprForm) → Tail → Tail
-with_ops [] t = t
-with_ops (f ∷ fs) t = and_op f.0 f.1 (with_ops fs t)
-
--- the operands read so far: whatever completes the rest completes the whole
-pub record OpsSoFar (n k : ℕ) (l : List Token) (start next : ℕ) (fs : List (BinOp × ExprForm)) : Type 0 where
-  pub forth : start ≤ next
-  pub within : next ≤ length l
-  pub reads : (s : List Item) → held s ≡ n → fault_from l start (more k ∷ s) ≡ fault_from l next (more k ∷ s)
-  pub spelled : (m : More) (tail : List Mark) → IsAfter k m → rest l next ≡ more_tokens m ++ tail → (way : More) × IsAfter k way × (rest l start ≡ more_tokens way ++ tail) × (more_trees way ≡ with_ops fs (more_trees m))
-
--- a first operand and those after it
-pub record LevelSoFar (n k : ℕ) (l : List Token) (p next : ℕ) (e : ExprForm) (fs : List (BinOp × ExprForm)) : Type 0 where
-  pub start : ℕ
-  pub first : Reads (level k) n (SpellsExpr k e) l p start
-  pub others : OpsSoFar n k l start next fs
-
 -- where a bracket stands at p: an expression up to its partner
 pub record ReadsIn (f : Fixed) (n : ℕ) (l : List Token) (p q : ℕ) (e : ExprForm) : Type 0 where
   pub forth : p + 2 < q
@@ -79,32 +63,16 @@ pub record ReadsArgs (n : ℕ) (l : List Token) (p q : ℕ) (es : ExprForms) : T
   pub reads : Step name_rest n l p q
   pub spelled : (way : Args) × AreArgs way × (r : ℕ) × (rest l (p + 1) ≡ arg_tokens way ++ sign fixed.CloseParen r ∷ rest l q) × (arg_trees way ≡ es)
 
--- arguments before others
-abbrev pub with_args : List ExprForm → ExprForms → ExprForms
-with_args [] t = t
-with_args (e ∷ es) t = expr e (with_args es t)
-
--- the arguments read so far, from the bracket at p on
-pub record ArgsSoFar (n : ℕ) (l : List Token) (p next : ℕ) (es : List ExprForm) : Type 0 where
-  pub forth : p + 1 < next
-  pub within : next ≤ length l
-  pub reads : (s : List Item) → held s ≡ n → fault_from l p (name_rest ∷ s) ≡ fault_from l next (more_args ∷ close fixed.CloseParen ∷ s)
-  pub spelled : (m : MoreArgs) (tail : List Mark) → AreMoreArgs m → rest l next ≡ more_arg_tokens m ++ tail → (way : Args) × AreArgs way × (rest l (p + 1) ≡ arg_tokens way ++ tail) × (arg_trees way ≡ with_args es (more_arg_trees m))
-
--- the word of a number after a `-`
-abbrev pub negated_word : Option ℕ → Option ℕ
-negated_word None = None
-negated_word (Some w) = Some ((2 ^ 32 - w) % 2 ^ 32)
-
+-- the word of a number after an operator, where that is a `-`
 abbrev pub negated_in : UnOp → Kind → Option ℕ
-negated_in o k = if is_neg o then negated_word (number_of k) else None
+negated_in o k = if is_neg o then negated (number_of k) else None
 
 -- a target, of which the name stands at p
-pub record ReadsGoal (n : ℕ) (l : List Token) (p q : ℕ) (t : TargetForm) : Type 0 where
+pub record ReadsTarget (n : ℕ) (l : List Token) (p q : ℕ) (t : TargetForm) : Type 0 where
   pub forth : p < q
   pub within : q ≤ length l
   pub reads : Step target_rest n l (p + 1) q
-  pub spelled : (way : Goal) × IsGoal way × (rest l p ≡ goal_tokens way ++ rest l q) × (goal_tree way ≡ t) × (first_place way ≡ offset_at l p)
+  pub spelled : (way : TargetWay) × IsTarget way × (rest l p ≡ target_tokens way ++ rest l q) × (target_tree way ≡ t) × (first_place way ≡ offset_at l p)
 
 abbrev pub SpellsAssign : StmtForm → List Mark → Type 0
 SpellsAssign a ts = (way : Assign) × IsAssign way × (assign_tokens way ≡ ts) × (assign_tree way ≡ a)
@@ -123,15 +91,3 @@ SpellsBody ss ts = (way : Body) × IsBody way × (body_tokens way ≡ ts) × (bo
 
 abbrev pub SpellsElse : StmtForms → List Mark → Type 0
 SpellsElse ss ts = (way : Else) × IsElse way × (else_tokens way ≡ ts) × (else_tree way ≡ ss)
-
--- statements before others
-abbrev pub with_stmts : List StmtForm → StmtForms → StmtForms
-with_stmts [] t = t
-with_stmts (a ∷ ss) t = stmt a (with_stmts ss t)
-
--- the statements read so far, from the brace at p on
-pub record StmtsSoFar (n : ℕ) (l : List Token) (p next : ℕ) (ss : List StmtForm) : Type 0 where
-  pub forth : p < next
-  pub within : next ≤ length l
-  pub reads : (s : List Item) → held s ≡ n + 1 → fault_from l (p + 1) (stmts ∷ s) ≡ fault_from l next (stmts ∷ s)
-  pub spelled : (q : Stmts) (tail : List Mark) → AreStmts q → rest l next ≡ stmts_tokens q ++ tail → (way : Stmts) × AreStmts way × (rest l (p + 1) ≡ stmts_tokens way ++ tail) × (stmts_trees way ≡ with_stmts ss (stmts_trees q))

@@ -1,0 +1,4 @@
+pub mod AtPlace
+pub mod Following
+pub mod HeadReads
+pub mod Reads
