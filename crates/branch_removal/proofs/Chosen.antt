@@ -6,7 +6,7 @@ use Rattle.std.proofs.lemmas.Bool.{eq-eqb}
 use Rattle.dom_words.specs.Operators.{is_true}
 use Rattle.dom_words.specs.State.{Hash}
 use Rattle.dom_ast.specs.Kept.{acts_visits, are_within, bodies_visits, guard_visits, part_within, resolved_ranges, visit_within}
-use Rattle.dom_ast.specs.Meaning.{Env, all_acted, entering, is_chosen, one, outcome_of, value_in}
+use Rattle.dom_ast.specs.Meaning.{Env, all_acted, entering, is_chosen, one_packet, outcome_of, value_in}
 use Rattle.dom_ast.specs.Resolved.{PartForm, ActForms, BodyForm}
 use Rattle.dom_ast.specs.Straight.{StepForm, all_stepped, straight_outcome}
 use Rattle.branch_removal.specs.declared.branch.Branch.TheVariants.{Then}

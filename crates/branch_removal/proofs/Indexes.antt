@@ -9,7 +9,7 @@ use Rattle.std.proofs.lemmas.List.Folds.{list_all-append}
 use Rattle.dom_ast.specs.declared.part.Goal.{Goal}
 use Rattle.dom_ast.specs.declared.part.Goal.TheVariants as goal
 use Rattle.dom_ast.specs.declared.part.Place.TheVariants as place
-use Rattle.dom_ast.specs.Kept.{Mention, Visit, act_visits, acts_visits, agree, are_guards_free, bodies_visits, changes_none, condition, guard_visits, have_one_index, is_empty, is_guard_free, is_place, keep_indexes, mention, mentions_in, part_mentions, visit_mentions}
+use Rattle.dom_ast.specs.Kept.{Mention, Visit, act_visits, acts_visits, agree, guards_mention_none, bodies_visits, changes_none, condition, guard_visits, have_one_index, is_empty, guard_mentions_none, is_same_place, keep_indexes, mention, mentions_in, part_mentions, visit_mentions}
 use Rattle.dom_ast.specs.Resolved.{PartForm, ActForm, assign, branch, ActForms, no_acts, act, BodyForm}
 use Rattle.dom_ast.specs.Straight.{StepForm, step_visit}
 use Rattle.branch_removal.specs.declared.branch.Branch.{Branch}
@@ -111,7 +111,7 @@ keep_steps-join ms ss ts h k =
     subst (λ vs. keep_indexes ms vs ≡ true) (sym (map-append step_visit ss ts)) (keep-join ms (visits_of ss) (visits_of ts) h k)
 
 changes_still : (ms ns : List Mention) (g : Goal) → Covers ms ns → changes_none ms (Some g) ≡ true → changes_none ns (Some g) ≡ true
-changes_still ms ns (goal.Field f) c h = c.all (λ m. not (is_place m.index (place.Field f))) h
+changes_still ms ns (goal.Field f) c h = c.all (λ m. not (is_same_place m.index (place.Field f))) h
 changes_still ms ns (goal.State a i) c h = refl
 changes_still ms ns (goal.Fresh k) c h = refl
 
@@ -189,15 +189,15 @@ empty_covers [] h = covers_refl []
 empty_covers (m ∷ ms) h = absurd (false≢true h)
 
 -- steps of guards mention no array
-guard_mentions : (k : ℕ) (guard : Option PartForm) → is_guard_free guard ≡ true → Covers [] (steps_mentions (guard_step k guard))
+guard_mentions : (k : ℕ) (guard : Option PartForm) → guard_mentions_none guard ≡ true → Covers [] (steps_mentions (guard_step k guard))
 guard_mentions k None h = covers_refl []
 guard_mentions k (Some p) h =
     covers-append [] [] (part_mentions p ++ []) [] (covers-append [] [] (part_mentions p) [] (empty_covers (part_mentions p) h) (covers_refl [])) (covers_refl [])
 
-guards_mentions : (k : ℕ) (bodies : List BodyForm) → are_guards_free bodies ≡ true → Covers [] (steps_mentions (guard_steps k bodies))
+guards_mentions : (k : ℕ) (bodies : List BodyForm) → guards_mention_none bodies ≡ true → Covers [] (steps_mentions (guard_steps k bodies))
 guards_mentions k [] h = covers_refl []
 guards_mentions k (body ∷ bodies) h =
-    let parts = both (is_guard_free body.guard) (are_guards_free bodies) h in
+    let parts = both (guard_mentions_none body.guard) (guards_mention_none bodies) h in
     covers_steps-append [] [] (guard_step k body.guard) (guard_steps (k + guard_count body.guard) bodies) (guard_mentions k body.guard parts.0) (guards_mentions (k + guard_count body.guard) bodies parts.1)
 
 guard_keeps : (k : ℕ) (ms : List Mention) (guard : Option PartForm) → keep_indexes ms (visits_of (guard_step k guard)) ≡ true
@@ -209,11 +209,11 @@ guards_keep k ms [] = refl
 guards_keep k ms (body ∷ bodies) =
     keep_steps-join ms (guard_step k body.guard) (guard_steps (k + guard_count body.guard) bodies) (guard_keeps k ms body.guard) (guards_keep (k + guard_count body.guard) (ms ++ steps_mentions (guard_step k body.guard)) bodies)
 
-pub straight_keeps : (bodies : List BodyForm) → are_guards_free bodies ≡ true → keep_indexes [] (bodies_visits bodies) ≡ true → keep_indexes [] (map step_visit (straight bodies)) ≡ true
+pub straight_keeps : (bodies : List BodyForm) → guards_mention_none bodies ≡ true → keep_indexes [] (bodies_visits bodies) ≡ true → keep_indexes [] (map step_visit (straight bodies)) ≡ true
 straight_keeps bodies free h =
     keep_steps-join [] (guard_steps 0 bodies) (bodies_steps 0 (guards bodies) bodies) (guards_keep 0 [] bodies) (bodies_keep 0 (guards bodies) [] (steps_mentions (guard_steps 0 bodies)) bodies (guards_mentions 0 bodies free) h)
 
-straight_mentions : (bodies : List BodyForm) → are_guards_free bodies ≡ true → Covers (mentions_in (bodies_visits bodies)) (steps_mentions (straight bodies))
+straight_mentions : (bodies : List BodyForm) → guards_mention_none bodies ≡ true → Covers (mentions_in (bodies_visits bodies)) (steps_mentions (straight bodies))
 straight_mentions bodies free =
     covers_steps-append [] (mentions_in (bodies_visits bodies)) (guard_steps 0 bodies) (bodies_steps 0 (guards bodies) bodies) (guards_mentions 0 bodies free) (bodies_mentions 0 (guards bodies) bodies)
 
@@ -227,5 +227,5 @@ one_index_still : (ms ns : List Mention) → Covers ms ns → have_one_index ms 
 one_index_still ms ns c h =
     all_weaker (λ m. list_all (agree m) ms) (λ m. list_all (agree m) ns) (λ m. c.all (agree m)) ns (c.all (λ m. list_all (agree m) ms) h)
 
-pub straight_one_index : (bodies : List BodyForm) → are_guards_free bodies ≡ true → have_one_index (mentions_in (bodies_visits bodies)) ≡ true → have_one_index (mentions_in (map step_visit (straight bodies))) ≡ true
+pub straight_one_index : (bodies : List BodyForm) → guards_mention_none bodies ≡ true → have_one_index (mentions_in (bodies_visits bodies)) ≡ true → have_one_index (mentions_in (map step_visit (straight bodies))) ≡ true
 straight_one_index bodies free h = one_index_still _ _ (straight_mentions bodies free) h

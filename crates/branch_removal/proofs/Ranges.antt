@@ -5,7 +5,7 @@ use Rattle.std.proofs.lemmas.Bool.{lt-ltb}
 use Rattle.dom_ast.specs.declared.part.Goal.{Goal}
 use Rattle.dom_ast.specs.declared.part.Goal.TheVariants as goal
 use Rattle.dom_ast.specs.declared.part.Place.TheVariants as place
-use Rattle.dom_ast.specs.Kept.{act_visits, acts_visits, are_within, bodies_visits, count_of, goal_within, guard_visits, ops_within, part_within, parts_within, resolved_ranges, visit_within}
+use Rattle.dom_ast.specs.Kept.{act_visits, acts_visits, are_within, bodies_visits, parts_count, goal_within, guard_visits, ops_within, part_within, parts_within, resolved_ranges, visit_within}
 use Rattle.dom_ast.specs.Resolved.{PartForm, number, field, state, fresh, made, call, un, chain, choice, PartForms, no_parts, part, OpForms, no_ops, op, ActForm, assign, branch, ActForms, no_acts, act, BodyForm}
 use Rattle.dom_ast.specs.Straight.{StepForm, step_visit, straight_ranges}
 use Rattle.branch_removal.specs.declared.branch.Branch.{Branch}
@@ -24,7 +24,7 @@ module _ (fields arrays names : ℕ) where
     more_part (fresh k) h = absurd (none_below k h)
     more_part (made k) h = h
     more_part (call unit ps) h =
-        let parts = both (nat_eq (count_of ps) unit.args) (parts_within (resolved_ranges fields arrays) ps) h in
+        let parts = both (nat_eq (parts_count ps) unit.args) (parts_within (resolved_ranges fields arrays) ps) h in
         join _ _ parts.0 (more_parts ps parts.1)
     more_part (un o p) h = more_part p h
     more_part (chain p os) h =

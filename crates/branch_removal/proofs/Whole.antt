@@ -2,8 +2,8 @@
 use Rattle.std.proofs.Common.{◌≡◌, ℕ, ◌+◌, ◌≤◌, ◌<◌, ◌^◌, true, List, [], map, length, sym, ap, ◌∙◌, subst, arith}
 use Rattle.dom_words.specs.State.{Hash}
 use Rattle.dom_words.specs.declared.array.Array.{Array}
-use Rattle.dom_ast.specs.Kept.{are_guards_free, are_within, bodies_visits, have_one_index, keep_indexes, mentions_in, resolved_ranges}
-use Rattle.dom_ast.specs.Meaning.{one}
+use Rattle.dom_ast.specs.Kept.{guards_mention_none, are_within, bodies_visits, have_one_index, keep_indexes, mentions_in, resolved_ranges}
+use Rattle.dom_ast.specs.Meaning.{one_packet}
 use Rattle.dom_ast.specs.PartSize.{bodies_nested, bodies_nodes}
 use Rattle.dom_ast.specs.Resolved.{BodyForm}
 use Rattle.dom_ast.specs.Straight.{StepForm, step_visit, steps_nodes, straight_outcome, straight_ranges}
@@ -29,15 +29,15 @@ pub steps_within : (steps : List StepForm) (found bodies : List BodyForm) (field
 steps_within steps found bodies fields names arrays words fresh made f a k h =
     rw (list_of steps found bodies made, f, a, k, made.same) (straight_within (length names) (length words) bodies h)
 
-pub steps_one_index : (steps : List StepForm) (found bodies : List BodyForm) → Made steps found bodies → are_guards_free bodies ≡ true → have_one_index (mentions_in (bodies_visits bodies)) ≡ true → have_one_index (mentions_in (map step_visit steps)) ≡ true
+pub steps_one_index : (steps : List StepForm) (found bodies : List BodyForm) → Made steps found bodies → guards_mention_none bodies ≡ true → have_one_index (mentions_in (bodies_visits bodies)) ≡ true → have_one_index (mentions_in (map step_visit steps)) ≡ true
 steps_one_index steps found bodies made free h =
     subst (λ ss. have_one_index (mentions_in (map step_visit ss)) ≡ true) (sym (list_of steps found bodies made)) (straight_one_index bodies free h)
 
-pub steps_keep : (steps : List StepForm) (found bodies : List BodyForm) → Made steps found bodies → are_guards_free bodies ≡ true → keep_indexes [] (bodies_visits bodies) ≡ true → keep_indexes [] (map step_visit steps) ≡ true
+pub steps_keep : (steps : List StepForm) (found bodies : List BodyForm) → Made steps found bodies → guards_mention_none bodies ≡ true → keep_indexes [] (bodies_visits bodies) ≡ true → keep_indexes [] (map step_visit steps) ≡ true
 steps_keep steps found bodies made free h =
     subst (λ ss. keep_indexes [] (map step_visit ss) ≡ true) (sym (list_of steps found bodies made)) (straight_keeps bodies free h)
 
-pub steps_mean : (steps : List StepForm) (found bodies : List BodyForm) (fields arrays : ℕ) → Made steps found bodies → are_within (resolved_ranges fields arrays) (bodies_visits bodies) ≡ true → (hash : Hash) (packet : List ℕ) (state : List (List ℕ)) → straight_outcome hash steps packet state ≡ one hash bodies packet state
+pub steps_mean : (steps : List StepForm) (found bodies : List BodyForm) (fields arrays : ℕ) → Made steps found bodies → are_within (resolved_ranges fields arrays) (bodies_visits bodies) ≡ true → (hash : Hash) (packet : List ℕ) (state : List (List ℕ)) → straight_outcome hash steps packet state ≡ one_packet hash bodies packet state
 steps_mean steps found bodies fields arrays made h hash packet state =
     ap (λ ss. straight_outcome hash ss packet state) (list_of steps found bodies made) ∙ means_one hash fields arrays bodies packet state h
 

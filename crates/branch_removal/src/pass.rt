@@ -1,6 +1,6 @@
 ghost use Rattle.std.specs.Prelude.{◌≡◌, ◌<◌, ◌≤◌, ◌+◌, ◌^◌, IfOk, map, true, ⊤};
 ghost use Rattle.dom_words.specs.State.{AgreeUnder};
-ghost use Rattle.dom_ast.specs.Meaning.{one};
+ghost use Rattle.dom_ast.specs.Meaning.{one_packet};
 ghost use Rattle.dom_ast.specs.PartSize.{bodies_nested, bodies_nodes};
 ghost use Rattle.dom_ast.specs.Resolved.{bodies_form};
 ghost use Rattle.dom_ast.specs.Straight.{step_form, steps_nodes, straight_outcome};
@@ -25,7 +25,7 @@ pub fn remove(alloc: Global, program: &Checked) -> Result<Straight, Memory>
     ensures names { IfOk result (λ s. given_names (map step_form s.steps) ≡ numbers 0 s.fresh) }
     ensures fields { IfOk result (λ s. s.fields ≡ program.now.fields) }
     ensures arrays { IfOk result (λ s. s.arrays ≡ program.now.arrays) }
-    ensures means { IfOk result (λ s. AgreeUnder (λ hash packet state. ⊤) (λ hash. straight_outcome hash (map step_form s.steps)) (λ hash. one hash (bodies_form program.now.bodies))) }
+    ensures means { IfOk result (λ s. AgreeUnder (λ hash packet state. ⊤) (λ hash. straight_outcome hash (map step_form s.steps)) (λ hash. one_packet hash (bodies_form program.now.bodies))) }
     ensures few { IfOk result (λ s. steps_nodes (map step_form s.steps) < 2 ^ 22) }
 {
     let fields = program.fields().copy(alloc)?;

@@ -16,8 +16,8 @@ use Rattle.dom_ast.specs.declared.checked.Act.{Act}
 use Rattle.dom_ast.specs.declared.part.Part.{Part}
 use Rattle.dom_ast.specs.declared.part.Part.TheViews.{Chain}
 use Rattle.dom_ast.proofs.PartForms.{form_chain}
-use Rattle.dom_ast.specs.Kept.{Ranges, act_visits, acts_visits, are_within, bodies_visits, count_of, goal_within, guard_visits, resolved_ranges, visit_within, ops_within, part_within, parts_within}
-use Rattle.dom_ast.specs.Meaning.{Env, all_acted, all_chosen, entering, folded, is_chosen, names_in, one, value_in}
+use Rattle.dom_ast.specs.Kept.{Ranges, act_visits, acts_visits, are_within, bodies_visits, parts_count, goal_within, guard_visits, resolved_ranges, visit_within, ops_within, part_within, parts_within}
+use Rattle.dom_ast.specs.Meaning.{Env, all_acted, all_chosen, entering, folded, is_chosen, names_in, one_packet, value_in}
 use Rattle.dom_ast.specs.Resolved.{PartForm, ActForm, assign, branch, ActForms, no_acts, act, BodyForm, act_form, act_forms, bodies_form, body_form, guard_form, call, form, forms, op_forms}
 use Rattle.dom_ast.specs.Serial.{IsPlaceOf}
 use Rattle.dom_ast.specs.inner.Runs.{act_within, acts_within, all_run, are_filled, bodies_within, guard_within, picked, ranges_over}
@@ -51,15 +51,15 @@ started_filled (a ∷ arrays) ok =
     and_from (nat_lt 0 (length (replicate a.length a.init))) (are_filled (started arrays)) (ap (nat_lt 0) (length-replicate a.length a.init) ∙ some) (started_filled arrays parts.1)
 
 -- as many arguments as their forms
-count-forms : (parts : List Part) → count_of (forms parts) ≡ length parts
+count-forms : (parts : List Part) → parts_count (forms parts) ≡ length parts
 count-forms [] = refl
 count-forms (p ∷ parts) = ap suc (count-forms parts)
 
 -- a call has as many arguments as its unit takes, and these are within the ranges
 pub call_within : (r : Ranges) (unit : HashName) (parts : List Part) → part_within r (call unit (forms parts)) ≡ true → (length parts ≡ unit.args) × (parts_within r (forms parts) ≡ true)
 call_within r unit parts ok =
-    let both = and_parts (nat_eq (count_of (forms parts)) unit.args) (parts_within r (forms parts)) ok in
-    (sym (count-forms parts) ∙ eqb-true (count_of (forms parts)) unit.args both.0, both.1)
+    let both = and_parts (nat_eq (parts_count (forms parts)) unit.args) (parts_within r (forms parts)) ok in
+    (sym (count-forms parts) ∙ eqb-true (parts_count (forms parts)) unit.args both.0, both.1)
 
 -- what holds of all visits of a program holds of its guards and statements
 mutual
@@ -156,13 +156,13 @@ over_is old new same = ap (λ (n : ℕ). take n (new ++ drop (length new) old)) 
 
 module _ (hash : Hash) (bodies : List BodyForm) (packet lent new : List ℕ) (arrays after : List (List ℕ)) (same : length new ≡ length lent) (is_lent : lent ≡ packet) (run : entering new after ≡ all_chosen hash bodies (entering lent arrays)) where
   -- the packet that is lent and written back
-  pub packet_is : take (length packet) (new ++ drop (length new) packet) ≡ (one hash bodies packet arrays).packet
+  pub packet_is : take (length packet) (new ++ drop (length new) packet) ≡ (one_packet hash bodies packet arrays).packet
   packet_is =
       over_is packet new (same ∙ ap length is_lent)
       ∙ ap (λ (env : Env). env.packet) run
       ∙ ap (λ (words : List ℕ). (all_chosen hash bodies (entering words arrays)).packet) is_lent
 
-  pub arrays_are : after ≡ (one hash bodies packet arrays).arrays
+  pub arrays_are : after ≡ (one_packet hash bodies packet arrays).arrays
   arrays_are =
       ap (λ (env : Env). env.arrays) run ∙ ap (λ (words : List ℕ). (all_chosen hash bodies (entering words arrays)).arrays) is_lent
 

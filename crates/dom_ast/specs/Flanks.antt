@@ -9,7 +9,7 @@ use Rattle.dom_ast.specs.declared.part.Goal.TheVariants as goal
 use Rattle.dom_ast.specs.declared.part.Place.{Place}
 use Rattle.dom_ast.specs.declared.flanks.FlankItem.{FlankItem}
 use Rattle.dom_ast.specs.declared.flanks.FlankItem.TheVariants as item
-use Rattle.dom_ast.specs.Kept.{Mention, Ranges, is_place, place_within, visit_mentions, visit_within}
+use Rattle.dom_ast.specs.Kept.{Mention, Ranges, is_same_place, place_within, visit_mentions, visit_within}
 use Rattle.dom_ast.specs.Meaning.{Names, place_word, put, value}
 use Rattle.dom_ast.specs.PartSize.{part_nodes}
 use Rattle.dom_ast.specs.Straight.{StepForm, step_form, step_visit}
@@ -45,7 +45,7 @@ flank_event (write a i) = writing a i
 -- after these read and write flanks: no array is read twice or written twice, each mention of an array stands after its
 -- read flank, and a write flank stands after it too and has its index
 abbrev pub are_flanked : List Mention → List ℕ → List FlankForm → Bool
-are_flanked reads writes items = are_ordered is_place reads writes (map flank_event items)
+are_flanked reads writes items = are_ordered is_same_place reads writes (map flank_event items)
 
 -- the packet, the state and the fresh names; and of each array the word that steps work on, and the index at which it was read
 pub record FlankEnv : Type 0 where

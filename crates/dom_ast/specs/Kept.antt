@@ -86,15 +86,15 @@ abbrev pub mentions_in : List Visit → List Mention
 mentions_in visits = flat_map visit_mentions visits
 
 -- two indexes are the same
-abbrev pub is_place : Place → Place → Bool
-is_place (place.Word w) (place.Word v) = nat_eq w v
-is_place (place.Word w) (place.Field f) = false
-is_place (place.Field f) (place.Word w) = false
-is_place (place.Field f) (place.Field g) = nat_eq f g
+abbrev pub is_same_place : Place → Place → Bool
+is_same_place (place.Word w) (place.Word v) = nat_eq w v
+is_same_place (place.Word w) (place.Field f) = false
+is_same_place (place.Field f) (place.Word w) = false
+is_same_place (place.Field f) (place.Field g) = nat_eq f g
 
 -- these are not two mentions of one array at two indexes
 abbrev pub agree : Mention → Mention → Bool
-agree m n = not (nat_eq m.array n.array) || is_place m.index n.index
+agree m n = not (nat_eq m.array n.array) || is_same_place m.index n.index
 
 -- all mentions of an array have one index
 abbrev pub have_one_index : List Mention → Bool
@@ -102,7 +102,7 @@ have_one_index ms = list_all (λ m. list_all (agree m) ms) ms
 
 -- the field is no index in these mentions
 abbrev pub is_no_index : List Mention → ℕ → Bool
-is_no_index ms f = list_all (λ m. not (is_place m.index (place.Field f))) ms
+is_no_index ms f = list_all (λ m. not (is_same_place m.index (place.Field f))) ms
 
 -- an assignment to this target changes no index in these mentions
 abbrev pub changes_none : List Mention → Option Goal → Bool
@@ -129,9 +129,9 @@ place_within r (place.Word w) = true
 place_within r (place.Field f) = nat_lt f r.fields
 
 -- how many expressions there are
-abbrev pub count_of : PartForms → ℕ
-count_of no_parts = 0
-count_of (part p ps) = suc (count_of ps)
+abbrev pub parts_count : PartForms → ℕ
+parts_count no_parts = 0
+parts_count (part p ps) = suc (parts_count ps)
 
 -- every number is in range, and a hash has as many arguments as its unit says
 abbrev mutual
@@ -141,7 +141,7 @@ abbrev mutual
   part_within r (state a i) = nat_lt a r.arrays && place_within r i
   part_within r (fresh k) = nat_lt k r.fresh
   part_within r (made k) = r.is_made k
-  part_within r (call unit ps) = nat_eq (count_of ps) unit.args && parts_within r ps
+  part_within r (call unit ps) = nat_eq (parts_count ps) unit.args && parts_within r ps
   part_within r (un o p) = part_within r p
   part_within r (chain p os) = part_within r p && ops_within r os
   part_within r (choice c p q) = part_within r c && (part_within r p && part_within r q)
@@ -182,10 +182,10 @@ is_empty [] = true
 is_empty (m ∷ ms) = false
 
 -- a guard, if there is one, mentions no array
-abbrev pub is_guard_free : Option PartForm → Bool
-is_guard_free None = true
-is_guard_free (Some p) = is_empty (part_mentions p)
+abbrev pub guard_mentions_none : Option PartForm → Bool
+guard_mentions_none None = true
+guard_mentions_none (Some p) = is_empty (part_mentions p)
 
 -- no guard mentions an array
-abbrev pub are_guards_free : List BodyForm → Bool
-are_guards_free bodies = list_all (λ body. is_guard_free body.guard) bodies
+abbrev pub guards_mention_none : List BodyForm → Bool
+guards_mention_none bodies = list_all (λ body. guard_mentions_none body.guard) bodies

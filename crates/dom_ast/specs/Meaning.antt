@@ -104,19 +104,19 @@ abbrev pub all_chosen : Hash → List BodyForm → Env → Env
 all_chosen hash bodies env = fold (λ now body. all_acted hash body.acts now) env (filter (is_chosen hash env) bodies)
 
 -- what transactions make of one packet and a state
-abbrev pub one : Hash → List BodyForm → List ℕ → List (List ℕ) → Outcome
-one hash bodies packet arrays = outcome_of (all_chosen hash bodies (entering packet arrays))
+abbrev pub one_packet : Hash → List BodyForm → List ℕ → List (List ℕ) → Outcome
+one_packet hash bodies packet arrays = outcome_of (all_chosen hash bodies (entering packet arrays))
 
 -- one packet after another, from a state: the packets that come out
 abbrev pub serial_packets : Hash → List BodyForm → List (List ℕ) → List (List ℕ) → List (List ℕ)
 serial_packets hash bodies arrays [] = []
 serial_packets hash bodies arrays (p ∷ ps) =
-    (one hash bodies p arrays).packet ∷ serial_packets hash bodies (one hash bodies p arrays).arrays ps
+    (one_packet hash bodies p arrays).packet ∷ serial_packets hash bodies (one_packet hash bodies p arrays).arrays ps
 
 -- the state behind the last of them
 abbrev pub serial_arrays : Hash → List BodyForm → List (List ℕ) → List (List ℕ) → List (List ℕ)
 serial_arrays hash bodies arrays [] = arrays
-serial_arrays hash bodies arrays (p ∷ ps) = serial_arrays hash bodies (one hash bodies p arrays).arrays ps
+serial_arrays hash bodies arrays (p ∷ ps) = serial_arrays hash bodies (one_packet hash bodies p arrays).arrays ps
 
 -- what a serial run gives: the packets that come out, in order, and the state at the end
 pub record SerialOutcome : Type 0 where

@@ -88,12 +88,12 @@ pub record NamedEnv : Type 0 where
   pub made : List ℕ
 
 -- what names stand for: the entered fields and the values so far; there are no arrays and no fresh names
-abbrev pub named_names : List ℕ → List ℕ → Names
-named_names packet values = record { field = slice_index packet; state = λ a i. 0; fresh = λ k. 0; made = slice_index values }
+abbrev pub item_names : List ℕ → List ℕ → Names
+item_names packet values = record { field = slice_index packet; state = λ a i. 0; fresh = λ k. 0; made = slice_index values }
 
 -- the word of an expression, for an entered packet and the values so far
 abbrev pub named_value : Hash → List ℕ → NamedEnv → PartForm → ℕ
-named_value hash packet env p = value hash (named_names packet env.made) p
+named_value hash packet env p = value hash (item_names packet env.made) p
 
 -- what an item does, for an entered packet
 abbrev pub named_step : Hash → List ℕ → NamedEnv → NamedForm → NamedEnv

@@ -1,6 +1,6 @@
 ghost use Rattle.std.specs.Prelude.{◌≡◌, ◌≤◌, [], length, true};
 ghost use Rattle.dom_ast.specs.Resolved.{bodies_form};
-ghost use Rattle.dom_ast.specs.Kept.{are_guards_free, are_within, bodies_visits, have_one_index, keep_indexes, mentions_in, resolved_ranges};
+ghost use Rattle.dom_ast.specs.Kept.{guards_mention_none, are_within, bodies_visits, have_one_index, keep_indexes, mentions_in, resolved_ranges};
 ghost use Rattle.dom_words.specs.State.{are_lengths, state_words};
 
 use crate::part::{Goal, Part};
@@ -44,7 +44,7 @@ pub struct Checked {
     ghost ranges: { are_within (resolved_ranges (length fields) (length arrays)) (bodies_visits (bodies_form bodies)) ≡ true },
     ghost one_index: { have_one_index (mentions_in (bodies_visits (bodies_form bodies))) ≡ true },
     ghost kept_indexes: { keep_indexes [] (bodies_visits (bodies_form bodies)) ≡ true },
-    ghost free_guards: { are_guards_free (bodies_form bodies) ≡ true },
+    ghost free_guards: { guards_mention_none (bodies_form bodies) ≡ true },
 }
 
 impl Checked {

@@ -2,7 +2,7 @@ ghost use Rattle.std.specs.Prelude.{◌≡◌, ◌<◌, ◌≤◌, [], length, m
 ghost use Rattle.dom_words.specs.Operators.{bin_word};
 ghost use Rattle.dom_words.specs.State.{IsStateOf, are_lengths, array_of, fetched, started, stored};
 ghost use Rattle.dom_ast.specs.Kept.{goal_within, ops_within, part_within, parts_within, place_within};
-ghost use Rattle.dom_ast.specs.Meaning.{acted, all_acted, all_chosen, assigned, entering, folded, is_chosen, is_guard_true, names_in, one, place_word, value_in, values};
+ghost use Rattle.dom_ast.specs.Meaning.{acted, all_acted, all_chosen, assigned, entering, folded, is_chosen, is_guard_true, names_in, one_packet, place_word, value_in, values};
 ghost use Rattle.dom_ast.specs.Resolved.{act_form, act_forms, bodies_form, call, form, forms, guard_form, op_forms};
 ghost use Rattle.dom_ast.specs.Serial.{IsPlaceOf};
 ghost use Rattle.dom_ast.specs.inner.Runs.{act_within, acts_within, all_run, bodies_within, guard_within, picked, ranges_over};
@@ -397,8 +397,8 @@ impl SerialRun {
     /// the order of the text. The packet has as many words as there are fields. Takes no memory.
     pub fn step<H: HashUnits>(&mut self, hash: &H, packet: &mut Packet)
         requires { length packet.old ≡ length self.old.program.fields }
-        ensures packet { packet.new ≡ (one (H.meaning hash.now) (bodies_form self.old.program.bodies) packet.old self.old.arrays).packet }
-        ensures arrays { self.new.arrays ≡ (one (H.meaning hash.now) (bodies_form self.old.program.bodies) packet.old self.old.arrays).arrays }
+        ensures packet { packet.new ≡ (one_packet (H.meaning hash.now) (bodies_form self.old.program.bodies) packet.old self.old.arrays).packet }
+        ensures arrays { self.new.arrays ≡ (one_packet (H.meaning hash.now) (bodies_form self.old.program.bodies) packet.old self.old.arrays).arrays }
         ensures program { self.new.program ≡ self.old.program }
         ensures words { length packet.new ≡ length packet.old }
     {

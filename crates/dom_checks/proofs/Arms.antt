@@ -21,7 +21,7 @@ use Rattle.dom_ast.specs.declared.stmt.Target.{Target}
 use Rattle.dom_ast.specs.declared.stmt.Target.TheVariants as target
 use Rattle.dom_ast.specs.Form.{ExprForm, OpForms, StmtForm, StmtForms, TargetForm, assign, branch, chain, choice, expr_step, form, forms, guard_form, op_forms, stmt_form, stmt_forms, stmt_step, target_form, to_field}
 use Rattle.dom_ast.specs.Resolved as tree
-use Rattle.dom_ast.specs.Kept.{Mention, act_visits, acts_visits, are_within, condition, guard_visits, is_empty, is_guard_free, mention, mentions_in, ops_mentions, part_mentions, resolved_ranges, visit_mentions}
+use Rattle.dom_ast.specs.Kept.{Mention, act_visits, acts_visits, are_within, condition, guard_visits, is_empty, guard_mentions_none, mention, mentions_in, ops_mentions, part_mentions, resolved_ranges, visit_mentions}
 use Rattle.dom_checks.specs.declared.faults.CheckFault.{CheckFault}
 use Rattle.dom_checks.specs.declared.faults.CheckFault.TheVariants as fault
 use Rattle.dom_checks.specs.Answers.{AreNumbers, IsFirst, are_settled}
@@ -174,9 +174,9 @@ module _ (scope : Scope) (numbers : AreNumbers (length scope.arrays) scope.meani
       subst (λ (g : Option Expr). are_within (resolved_ranges (length scope.fields) (length scope.arrays)) (guard_visits (guard_of scope (guard_form g))) ≡ true) (sym is)
       (condition_sound true scope before (part_of scope (form e)) (expr_sound scope numbers true before (form e) holds)).inside
 
-  pub guard_free : is_guard_free (guard_of scope (guard_form o)) ≡ true
+  pub guard_free : guard_mentions_none (guard_of scope (guard_form o)) ≡ true
   guard_free =
-      subst (λ (g : Option Expr). is_guard_free (guard_of scope (guard_form g)) ≡ true) (sym is)
+      subst (λ (g : Option Expr). guard_mentions_none (guard_of scope (guard_form g)) ≡ true) (sym is)
       (nothing_empty (part_mentions (part_of scope (form e))) ((expr_sound scope numbers true before (form e) holds).free refl))
 
   pub guard_seen : (after : List Mention) → after ≡ before ++ part_mentions (part_of scope (form e)) → after ≡ before

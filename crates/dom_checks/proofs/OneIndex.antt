@@ -7,23 +7,23 @@ use Rattle.std.specs.List.{find, list_all}
 use Rattle.std.specs.Option.{option_map}
 use Rattle.dom_ast.specs.declared.part.Place.{Place}
 use Rattle.dom_ast.specs.declared.part.Place.TheVariants as place
-use Rattle.dom_ast.specs.Kept.{Mention, agree, have_one_index, is_place, mention}
+use Rattle.dom_ast.specs.Kept.{Mention, agree, have_one_index, is_same_place, mention}
 use Rattle.dom_checks.specs.declared.meant.Meant.{Meant}
 use Rattle.dom_checks.specs.Answers.{are_settled, has_scalar, is_at_word}
 use Rattle.dom_checks.specs.Walk.{first_index, is_same_index}
 
-same_place : (i j : Place) → is_place i j ≡ true → i ≡ j
+same_place : (i j : Place) → is_same_place i j ≡ true → i ≡ j
 same_place (place.Word w) (place.Word v) h = ap place.Word (eqb-true w v h)
 same_place (place.Word w) (place.Field f) h = absurd (true≢false (sym h))
 same_place (place.Field f) (place.Word w) h = absurd (true≢false (sym h))
 same_place (place.Field f) (place.Field g) h = ap place.Field (eqb-true f g h)
 
-place_itself : (i : Place) → is_place i i ≡ true
+place_itself : (i : Place) → is_same_place i i ≡ true
 place_itself (place.Word w) = eq-eqb w w refl
 place_itself (place.Field f) = eq-eqb f f refl
 
-symmetric : (i j : Place) → is_place i j ≡ true → is_place j i ≡ true
-symmetric i j h = subst (λ (p : Place). is_place p i ≡ true) (same_place i j h) (place_itself i)
+symmetric : (i j : Place) → is_same_place i j ≡ true → is_same_place j i ≡ true
+symmetric i j h = subst (λ (p : Place). is_same_place p i ≡ true) (same_place i j h) (place_itself i)
 
 eqb_flip : (a b : ℕ) → nat_eq a b ≡ true → nat_eq b a ≡ true
 eqb_flip a b h = eq-eqb b a (sym (eqb-true a b h))
@@ -36,8 +36,8 @@ agree_flip : (m n : Mention) → agree m n ≡ true → agree n m ≡ true
 agree_flip m n h = by (cases_Bool (nat_eq n.array m.array))
   where
     by : (nat_eq n.array m.array ≡ true) ⊎ (nat_eq n.array m.array ≡ false) → agree n m ≡ true
-    by (inl is) = or_right (not (nat_eq n.array m.array)) (is_place n.index m.index) (symmetric m.index n.index (ap (λ (b : Bool). not b || is_place m.index n.index) (sym (eqb_flip n.array m.array is)) ∙ h))
-    by (inr other) = or_left (not (nat_eq n.array m.array)) (is_place n.index m.index) (not_from_false (nat_eq n.array m.array) other)
+    by (inl is) = or_right (not (nat_eq n.array m.array)) (is_same_place n.index m.index) (symmetric m.index n.index (ap (λ (b : Bool). not b || is_same_place m.index n.index) (sym (eqb_flip n.array m.array is)) ∙ h))
+    by (inr other) = or_left (not (nat_eq n.array m.array)) (is_same_place n.index m.index) (not_from_false (nat_eq n.array m.array) other)
 
 -- where each of some mentions agrees with all, and with one more, it agrees with all and that one
 rows_more : (ns ms : List Mention) (m : Mention) → list_all (λ (n : Mention). list_all (agree n) ms) ns ≡ true → list_all (agree m) ns ≡ true → list_all (λ (n : Mention). list_all (agree n) (ms ++ m ∷ [])) ns ≡ true
@@ -79,7 +79,7 @@ none_agree (n ∷ ns) a i none = elim (cases_Bool (nat_eq n.array a)) [
   | inl here ↦ absurd (none-some n.index (sym none ∙ first_of n ns a true here))
   | inr other ↦
       and_from (agree (mention a i) n) (list_all (agree (mention a i)) ns)
-      (or_left (not (nat_eq a n.array)) (is_place i n.index) (not_from_false (nat_eq a n.array) (eqb_other n.array a other)))
+      (or_left (not (nat_eq a n.array)) (is_same_place i n.index) (not_from_false (nat_eq a n.array) (eqb_other n.array a other)))
       (none_agree ns a i (sym (first_of n ns a false other) ∙ none))
 ]
 
@@ -95,7 +95,7 @@ one_index_more ms m one same =
     list_all-append (λ (n : Mention). list_all (agree n) (ms ++ m ∷ [])) ms (m ∷ [])
     ∙ and_from (list_all (λ (n : Mention). list_all (agree n) (ms ++ m ∷ [])) ms) (list_all (agree m) (ms ++ m ∷ []) && true) (rows_more ms ms m one with_m)
     (and_from (list_all (agree m) (ms ++ m ∷ [])) true
-    (list_all-append (agree m) ms (m ∷ []) ∙ and_from (list_all (agree m) ms) (agree m m && true) with_m (and_from (agree m m) true (or_right (not (nat_eq m.array m.array)) (is_place m.index m.index) (place_itself m.index)) refl))
+    (list_all-append (agree m) ms (m ∷ []) ∙ and_from (list_all (agree m) ms) (agree m m && true) with_m (and_from (agree m m) true (or_right (not (nat_eq m.array m.array)) (is_same_place m.index m.index) (place_itself m.index)) refl))
     refl)
 
 -- where scalars are mentioned at their one word, that is a scalar's first index
@@ -106,7 +106,7 @@ scalar_first meanings (n ∷ ns) a scalar at_words =
     elim (cases_Bool (nat_eq n.array a)) [
       | inl here ↦
           let has : has_scalar meanings n.array ≡ true = ap (has_scalar meanings) (eqb-true n.array a here) ∙ scalar in
-          ap (λ (o : Option Place). is_same_index o (place.Word 0)) (first_of n ns a true here) ∙ (ap (λ (b : Bool). not b || is_place n.index (place.Word 0)) (sym has) ∙ parts.0)
+          ap (λ (o : Option Place). is_same_index o (place.Word 0)) (first_of n ns a true here) ∙ (ap (λ (b : Bool). not b || is_same_place n.index (place.Word 0)) (sym has) ∙ parts.0)
       | inr other ↦ ap (λ (o : Option Place). is_same_index o (place.Word 0)) (first_of n ns a false other) ∙ scalar_first meanings ns a scalar parts.1
     ]
 

@@ -12,7 +12,7 @@ use Rattle.dom_ast.specs.declared.part.Place.{Place}
 use Rattle.dom_ast.specs.declared.part.Place.TheVariants as place
 use Rattle.dom_ast.specs.Form.{ExprForm, number, word, field, index, call, un, chain, choice, ExprForms, no_exprs, expr, OpForms, no_ops, op}
 use Rattle.dom_ast.specs.Resolved.{PartForms}
-use Rattle.dom_ast.specs.Kept.{Mention, count_of, mention, ops_mentions, ops_within, part_mentions, part_within, parts_mentions, parts_within, place_within, resolved_ranges}
+use Rattle.dom_ast.specs.Kept.{Mention, parts_count, mention, ops_mentions, ops_within, part_mentions, part_within, parts_mentions, parts_within, place_within, resolved_ranges}
 use Rattle.dom_checks.specs.declared.faults.CheckFault.TheVariants as fault
 use Rattle.dom_checks.specs.declared.meant.Meant.{Meant}
 use Rattle.dom_checks.specs.declared.meant.Meant.TheVariants as meaning
@@ -183,16 +183,16 @@ module _ (scope : Scope) (numbers : AreNumbers (length scope.arrays) scope.meani
       (place_inside e (front_holds (place_checks scope e) (check (fault.TwoIndexes p) same ∷ []) second.1))
       (at_check (fault.TwoIndexes p) same [] (back_holds (place_checks scope e) (check (fault.TwoIndexes p) same ∷ []) second.1)).0
 
-  count_same : (es : ExprForms) → count_of (parts_of scope es) ≡ exprs_count es
+  count_same : (es : ExprForms) → parts_count (parts_of scope es) ≡ exprs_count es
   count_same no_exprs = refl
   count_same (expr e es) = ap (λ (n : ℕ). suc n) (count_same es)
 
-  call_sound : (g : Bool) (before : List Mention) (o : Option HashName) (n : ℕ) (ps : PartForms) → takes o n ≡ true → count_of ps ≡ n
+  call_sound : (g : Bool) (before : List Mention) (o : Option HashName) (n : ℕ) (ps : PartForms) → takes o n ≡ true → parts_count ps ≡ n
       → IsSound g scope before (parts_within (resolved_ranges (length scope.fields) (length scope.arrays)) ps) (parts_mentions ps)
       → IsSound g scope before (part_within (resolved_ranges (length scope.fields) (length scope.arrays)) (call_part o ps)) (part_mentions (call_part o ps))
   call_sound g before None n ps taken count s = absurd (true≢false (sym taken))
   call_sound g before (Some unit) n ps taken count s = record {
-    inside = and_from (nat_eq (count_of ps) unit.args) _ (eq-eqb (count_of ps) unit.args (count ∙ sym (eqb-true unit.args n taken))) s.inside;
+    inside = and_from (nat_eq (parts_count ps) unit.args) _ (eq-eqb (parts_count ps) unit.args (count ∙ sym (eqb-true unit.args n taken))) s.inside;
     free = s.free;
     settled = s.settled;
   }

@@ -6,7 +6,7 @@ use Rattle.std.proofs.lemmas.List.{append-nil}
 use Rattle.dom_words.specs.Names.{is_same}
 use Rattle.dom_ast.specs.Form.{ExprForm, StmtForms, TransactionForm, ProgramForm}
 use Rattle.dom_ast.specs.Resolved.{BodyForm, PartForm}
-use Rattle.dom_ast.specs.Kept.{Mention, Visit, acts_visits, are_guards_free, are_within, bodies_visits, condition, guard_visits, have_one_index, is_empty, is_guard_free, keep_indexes, mentions_in, part_mentions, part_within, resolved_ranges}
+use Rattle.dom_ast.specs.Kept.{Mention, Visit, acts_visits, guards_mention_none, are_within, bodies_visits, condition, guard_visits, have_one_index, is_empty, guard_mentions_none, keep_indexes, mentions_in, part_mentions, part_within, resolved_ranges}
 use Rattle.dom_checks.specs.declared.faults.CheckFault.TheVariants as fault
 use Rattle.dom_checks.specs.Answers.{AreNumbers, are_settled, is_at_word}
 use Rattle.dom_checks.specs.Resolve.{acts_of, body_of, guard_of, part_of}
@@ -20,7 +20,7 @@ use Rattle.dom_checks.proofs.SoundStmts.{AreSound, chained, condition_mentions, 
 record IsSoundGuard (scope : Scope) (before : List Mention) (guard : Option PartForm) : Type 0 where
   sound : AreSound scope before (guard_visits guard)
   silent : mentions_in (guard_visits guard) ≡ []
-  free : is_guard_free guard ≡ true
+  free : guard_mentions_none guard ≡ true
 
 condition_silent : (scope : Scope) (before : List Mention) (p : PartForm) → IsSound true scope before (part_within (resolved_ranges (length scope.fields) (length scope.arrays)) p) (part_mentions p) → IsSoundGuard scope before (Some p)
 condition_silent scope before p s =
@@ -47,7 +47,7 @@ outside scope param before visits s = record { inside = s.inside; kept = s.kept;
 -- what holds of guards and bodies
 pub record AreSoundBodies (scope : Scope) (before : List Mention) (bodies : List BodyForm) : Type 0 where
   pub sound : AreSound scope before (bodies_visits bodies)
-  pub free : are_guards_free bodies ≡ true
+  pub free : guards_mention_none bodies ≡ true
 
 -- a transaction and those after it
 body_sound : (scope : Scope) (before : List Mention) (param : List ℕ) (guard : Option PartForm) (visits : List Visit) (later : List Visit) → IsSoundGuard (with_param scope param) before guard → AreSound (with_param scope param) before visits → AreSound scope (before ++ mentions_in visits) later → AreSound scope before ((guard_visits guard ++ visits) ++ later)
@@ -73,7 +73,7 @@ transactions_sound scope numbers before (t ∷ ts) holds =
     let rest : AreSoundBodies scope after (map (body_of scope) ts) = transactions_sound scope numbers after ts (back_holds (transaction_checks scope before t) (transactions_checks scope after ts) holds) in
     record {
       sound = body_sound scope before t.param (guard_of inner t.guard) (acts_visits (acts_of inner t.body)) (bodies_visits (map (body_of scope) ts)) guard acts rest.sound;
-      free = and_from (is_guard_free (guard_of inner t.guard)) (are_guards_free (map (body_of scope) ts)) guard.free rest.free;
+      free = and_from (guard_mentions_none (guard_of inner t.guard)) (guards_mention_none (map (body_of scope) ts)) guard.free rest.free;
     }
 
 -- all mentions of an array have one index

@@ -6,7 +6,7 @@ use Rattle.std.specs.List.{find, slice_get}
 use Rattle.std.specs.Option.{option_map, option_or}
 use Rattle.dom_ast.specs.declared.part.Place.{Place}
 use Rattle.dom_ast.specs.declared.part.Place.TheVariants as place
-use Rattle.dom_ast.specs.Kept.{Mention, is_no_index, is_place, mention}
+use Rattle.dom_ast.specs.Kept.{Mention, is_no_index, is_same_place, mention}
 use Rattle.dom_checks.specs.Answers.{AreFirsts, AreIndexes, AreTables}
 use Rattle.dom_checks.specs.Walk.{first_index}
 use Rattle.dom_checks.proofs.FirstFaults.{map_or}
@@ -85,9 +85,9 @@ firsts_added ms m firsts small within had are = λ a under. at a under (cases_eq
         ap (slice_get (slice_set firsts m.array (Some m.index))) (sym is) ∙ get-set_same firsts m.array (Some m.index) within ∙ ap Some (sym (first_added ms m a None is none))
     at a under (inr other) = get-set_other firsts m.array a (Some m.index) other ∙ are a under ∙ ap Some (sym (first_stays ms m a other))
 
-no_index-append : (ms : List Mention) (m : Mention) (f : ℕ) (b : Bool) → is_place m.index (place.Field f) ≡ b → is_no_index (ms ++ m ∷ []) f ≡ (is_no_index ms f && (not b && true))
+no_index-append : (ms : List Mention) (m : Mention) (f : ℕ) (b : Bool) → is_same_place m.index (place.Field f) ≡ b → is_no_index (ms ++ m ∷ []) f ≡ (is_no_index ms f && (not b && true))
 no_index-append ms m f b e =
-    list_all-append (λ (n : Mention). not (is_place n.index (place.Field f))) ms (m ∷ []) ∙ ap (λ (t : Bool). is_no_index ms f && (not t && true)) e
+    list_all-append (λ (n : Mention). not (is_same_place n.index (place.Field f))) ms (m ∷ []) ∙ ap (λ (t : Bool). is_no_index ms f && (not t && true)) e
 
 and_true : (b : Bool) → (b && true) ≡ b
 and_true true = refl

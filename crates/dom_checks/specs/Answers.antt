@@ -3,7 +3,7 @@ use Rattle.std.specs.Prelude.{◌≡◌, ℕ, ◌<◌, Bool, true, false, not, �
 use Rattle.std.specs.List.{list_all, list_any}
 use Rattle.dom_ast.specs.declared.part.Place.{Place}
 use Rattle.dom_ast.specs.declared.part.Place.TheVariants as place
-use Rattle.dom_ast.specs.Kept.{Mention, have_one_index, is_no_index, is_place, mention}
+use Rattle.dom_ast.specs.Kept.{Mention, have_one_index, is_no_index, is_same_place, mention}
 use Rattle.dom_checks.specs.declared.faults.CheckFault.{CheckFault}
 use Rattle.dom_checks.specs.declared.faults.CheckFault.TheVariants as fault
 use Rattle.dom_checks.specs.declared.meant.Meant.{Meant}
@@ -70,7 +70,7 @@ pub record AreNumbers (arrays : ℕ) (meanings : List Meant) : Type 0 where
 
 -- a scalar is mentioned at its one word
 abbrev pub is_at_word : List Meant → Mention → Bool
-is_at_word meanings m = not (has_scalar meanings m.array) || is_place m.index (place.Word 0)
+is_at_word meanings m = not (has_scalar meanings m.array) || is_same_place m.index (place.Word 0)
 
 -- all mentions of an array have one index, and scalars are mentioned at their one word
 abbrev pub are_settled : List Meant → List Mention → Bool

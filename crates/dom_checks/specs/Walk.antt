@@ -14,7 +14,7 @@ use Rattle.dom_ast.specs.declared.program.Length.TheVariants as extent
 use Rattle.dom_ast.specs.declared.program.Init.{Init}
 use Rattle.dom_ast.specs.declared.program.Init.TheVariants as init
 use Rattle.dom_ast.specs.Form.{ExprForm, number, word, field, index, call, un, chain, choice, ExprForms, no_exprs, expr, OpForms, no_ops, op, TargetForm, to_word, to_field, to_index, StmtForm, assign, branch, StmtForms, no_stmts, stmt, TransactionForm, ProgramForm}
-use Rattle.dom_ast.specs.Kept.{Mention, acts_visits, act_visits, is_no_index, is_place, mention, mentions_in, part_mentions}
+use Rattle.dom_ast.specs.Kept.{Mention, acts_visits, act_visits, is_no_index, is_same_place, mention, mentions_in, part_mentions}
 use Rattle.dom_words.specs.State.{is_length, state_words}
 use Rattle.dom_checks.specs.declared.faults.CheckFault.{CheckFault}
 use Rattle.dom_checks.specs.declared.faults.CheckFault.TheVariants as fault
@@ -175,7 +175,7 @@ first_index before a = option_map (λ m. m.index) (find (λ m. nat_eq m.array a)
 -- the index is that of the first mention, if there is one
 abbrev pub is_same_index : Option Place → Place → Bool
 is_same_index None i = true
-is_same_index (Some j) i = is_place j i
+is_same_index (Some j) i = is_same_place j i
 
 -- at `X` of `X[e]`
 abbrev pub array_checks : Bool → Scope → ℕ → List ℕ → List Check

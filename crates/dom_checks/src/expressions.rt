@@ -3,7 +3,7 @@ ghost use Rattle.dom_words.specs.Units.{unit_named};
 ghost use Rattle.dom_ast.specs.Form as syntax;
 ghost use Rattle.dom_ast.specs.declared.part.Place.TheVariants as place;
 ghost use Rattle.dom_ast.specs.Resolved as tree;
-ghost use Rattle.dom_ast.specs.Kept.{are_within, guard_visits, is_guard_free, mention, ops_mentions, part_mentions, parts_mentions, resolved_ranges};
+ghost use Rattle.dom_ast.specs.Kept.{are_within, guard_visits, guard_mentions_none, mention, ops_mentions, part_mentions, parts_mentions, resolved_ranges};
 ghost use Rattle.dom_checks.specs.Answers.{AreNumbers, IsFirst, IsPlaceBelow, named};
 ghost use Rattle.dom_checks.specs.Resolve.{array_number, field_number as number_of, guard_of, name_part, ops_of, part_of, parts_of, place_of};
 ghost use Rattle.dom_checks.specs.Scope.{meant};
@@ -170,7 +170,7 @@ pub(crate) fn guard(
     ensures seen { OnOk result (seen.new ≡ seen.old) }
     ensures fault { IfErr result (λ f. IsFirst f (guard_checks scope.now seen.old (syntax.guard_form guard.now))) }
     ensures within { OnOk result (are_within (resolved_ranges (length scope.now.fields) (length scope.now.arrays)) (guard_visits (guard_of scope.now (syntax.guard_form guard.now))) ≡ true) }
-    ensures free { OnOk result (is_guard_free (guard_of scope.now (syntax.guard_form guard.now)) ≡ true) }
+    ensures free { OnOk result (guard_mentions_none (guard_of scope.now (syntax.guard_form guard.now)) ≡ true) }
 {
     match guard {
         Some(expr) => match expression(alloc, scope, true, seen, expr) {

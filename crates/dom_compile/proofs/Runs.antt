@@ -20,7 +20,7 @@ use Rattle.container_plan.specs.Shared.{shared}
 use Rattle.container_plan.proofs.Lawful.{legal_one, narrow}
 use Rattle.container_plan.proofs.Legal.{room}
 use Rattle.container_plan.proofs.Meaning.{alone_same, one_same}
-use Rattle.dom_ast.specs.Meaning.{one, serial_arrays, serial_packets}
+use Rattle.dom_ast.specs.Meaning.{one_packet, serial_arrays, serial_packets}
 use Rattle.dom_ast.specs.Resolved.{BodyForm, CheckedForm}
 use Rattle.dom_compile.specs.Answer.{IsCompileAnswer, IsConfigured, IsFitted}
 use Rattle.dom_compile.specs.Compiled.{IsListed}
@@ -31,16 +31,16 @@ use Rattle.dom_compile.proofs.OneProgram.{one_program}
 -- One packet after another is the serial run, where one packet is what the transactions make of it.
 
 module _ (hash : Hash) (bodies : List BodyForm) where
-  packets_in_turn : (state : Arrays) (packets : List (List ℕ)) → (in_turn (one hash bodies) state packets).packets ≡ serial_packets hash bodies state packets
+  packets_in_turn : (state : Arrays) (packets : List (List ℕ)) → (in_turn (one_packet hash bodies) state packets).packets ≡ serial_packets hash bodies state packets
   packets_in_turn state [] = refl
-  packets_in_turn state (p ∷ ps) = ap (λ (z : List (List ℕ)). (one hash bodies p state).packet ∷ z) (packets_in_turn (one hash bodies p state).arrays ps)
+  packets_in_turn state (p ∷ ps) = ap (λ (z : List (List ℕ)). (one_packet hash bodies p state).packet ∷ z) (packets_in_turn (one_packet hash bodies p state).arrays ps)
 
-  arrays_in_turn : (state : Arrays) (packets : List (List ℕ)) → (in_turn (one hash bodies) state packets).arrays ≡ serial_arrays hash bodies state packets
+  arrays_in_turn : (state : Arrays) (packets : List (List ℕ)) → (in_turn (one_packet hash bodies) state packets).arrays ≡ serial_arrays hash bodies state packets
   arrays_in_turn state [] = refl
-  arrays_in_turn state (p ∷ ps) = arrays_in_turn (one hash bodies p state).arrays ps
+  arrays_in_turn state (p ∷ ps) = arrays_in_turn (one_packet hash bodies p state).arrays ps
 
 abbrev means : CheckedForm → Meaning
-means program hash packet state = one hash program.bodies packet state
+means program hash packet state = one_packet hash program.bodies packet state
 
 module _ (s : Shape) (program : CheckedForm) (c : Codelets) (listed : IsListed program c.flat) (atoms : List AtomForm) (places : List Place) (atoms_are : AreAtomsOf c atoms)
     (plan : IsPlan s.depth s.stateless s.stateful c.list places) (unshared : LegalFor s (compiled_parts c s.depth atoms places)) where
@@ -69,10 +69,10 @@ module _ (s : Shape) (program : CheckedForm) (c : Codelets) (listed : IsListed p
   listed_runs hash packets small long =
       let full : AllByRecursion (λ p. length p ≡ length c.flat.fields) packets =
       subst (λ (fields : List (List ℕ)). AllByRecursion (λ p. length p ≡ length fields) packets) (sym listed.fields) long in
-      let same : alone hash (shared own) packets ≡ in_turn (one hash program.bodies) (started program.arrays) packets =
+      let same : alone hash (shared own) packets ≡ in_turn (one_packet hash program.bodies) (started program.arrays) packets =
       shared_runs hash packets full
       ∙ turns.runs_as c s.depth s.stateless s.stateful atoms places atoms_are plan (means program) meaning hash packets small full
-      ∙ ap (λ (arrays : List Array). in_turn (one hash program.bodies) (started arrays) packets) listed.arrays in
+      ∙ ap (λ (arrays : List Array). in_turn (one_packet hash program.bodies) (started arrays) packets) listed.arrays in
       record {
         packets_are = ap (λ (o : AloneOutcome). o.packets) same ∙ packets_in_turn hash program.bodies (started program.arrays) packets;
         arrays_are = ap (λ (o : AloneOutcome). o.arrays) same ∙ arrays_in_turn hash program.bodies (started program.arrays) packets;

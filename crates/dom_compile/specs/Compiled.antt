@@ -1,7 +1,7 @@
 -- What a text compiles to, and why it does not.
 use Rattle.std.specs.Prelude.{◌≡◌, ◌<◌, ℕ, ◌+◌, List, length}
 use Rattle.dom_words.specs.State.{Hash, IsSmallHash, IsStateOf, Outcome}
-use Rattle.dom_ast.specs.Meaning.{one}
+use Rattle.dom_ast.specs.Meaning.{one_packet}
 use Rattle.dom_ast.specs.Resolved.{CheckedForm}
 use Rattle.branch_removal.specs.Branches.{guards, ifs, straight}
 use Rattle.state_flanks.specs.WithFlanks.{with_flanks}
@@ -28,7 +28,7 @@ listed program = statements (length program.fields) (naming_of program).items (o
 abbrev pub MeansProgram : CheckedForm → (Hash → List ℕ → List (List ℕ) → Outcome) → Type 0
 MeansProgram program outcome =
     (hash : Hash) (packet : List ℕ) (state : List (List ℕ)) → IsSmallHash hash → length packet ≡ length program.fields → IsStateOf program.arrays state
-    → outcome hash packet state ≡ one hash program.bodies packet state
+    → outcome hash packet state ≡ one_packet hash program.bodies packet state
 
 -- the statement list of a resolved program does what the program does
 pub record IsListed (program : CheckedForm) (flat : Flat) : Type 0 where

@@ -7,7 +7,7 @@ use Rattle.dom_io.specs.declared.sink.SinkFault.{SinkFault}
 use Rattle.dom_words.specs.State.{Hash, IsStateOf, array_of, started}
 use Rattle.dom_words.specs.declared.array.Array.{Array}
 use Rattle.trace_text.specs.Lines.{done_line, head_line, name_at, packet_line}
-use Rattle.dom_ast.specs.Meaning.{one, serial_arrays, serial_packets}
+use Rattle.dom_ast.specs.Meaning.{one_packet, serial_arrays, serial_packets}
 use Rattle.dom_ast.specs.Resolved.{BodyForm, CheckedForm}
 use Rattle.dom_ast.specs.Serial.{IsPlaceOf}
 use Rattle.trace_text.specs.Lines.{joined}
@@ -36,15 +36,15 @@ numbered-append n (x ∷ xs) ys =
 module _ (hash : Hash) (bodies : List BodyForm) where
   arrays-append : (arrays : List (List ℕ)) (xs ys : List (List ℕ)) → serial_arrays hash bodies arrays (xs ++ ys) ≡ serial_arrays hash bodies (serial_arrays hash bodies arrays xs) ys
   arrays-append arrays [] ys = refl
-  arrays-append arrays (x ∷ xs) ys = arrays-append (one hash bodies x arrays).arrays xs ys
+  arrays-append arrays (x ∷ xs) ys = arrays-append (one_packet hash bodies x arrays).arrays xs ys
 
   packets-append : (arrays : List (List ℕ)) (xs ys : List (List ℕ)) → serial_packets hash bodies arrays (xs ++ ys) ≡ serial_packets hash bodies arrays xs ++ serial_packets hash bodies (serial_arrays hash bodies arrays xs) ys
   packets-append arrays [] ys = refl
-  packets-append arrays (x ∷ xs) ys = ap (λ l. (one hash bodies x arrays).packet ∷ l) (packets-append (one hash bodies x arrays).arrays xs ys)
+  packets-append arrays (x ∷ xs) ys = ap (λ l. (one_packet hash bodies x arrays).packet ∷ l) (packets-append (one_packet hash bodies x arrays).arrays xs ys)
 
   length-packets : (arrays : List (List ℕ)) (xs : List (List ℕ)) → length (serial_packets hash bodies arrays xs) ≡ length xs
   length-packets arrays [] = refl
-  length-packets arrays (x ∷ xs) = ap suc (length-packets (one hash bodies x arrays).arrays xs)
+  length-packets arrays (x ∷ xs) = ap suc (length-packets (one_packet hash bodies x arrays).arrays xs)
 
   lines-append : (arrays : List (List ℕ)) (n : ℕ) (xs ys : List (List ℕ)) → lines_in_turn hash bodies arrays n (xs ++ ys) ≡ lines_in_turn hash bodies arrays n xs ++ lines_in_turn hash bodies (serial_arrays hash bodies arrays xs) (n + length xs) ys
   lines-append arrays n xs ys =
@@ -55,8 +55,8 @@ module _ (hash : Hash) (bodies : List BodyForm) where
       (ap (λ m. n + m) (length-packets arrays xs))
 
   -- one packet
-  one_line : (arrays : List (List ℕ)) (n : ℕ) (x : List ℕ) → lines_in_turn hash bodies arrays n (x ∷ []) ≡ packet_line n (one hash bodies x arrays).packet
-  one_line arrays n x = append-nil (packet_line n (one hash bodies x arrays).packet)
+  one_line : (arrays : List (List ℕ)) (n : ℕ) (x : List ℕ) → lines_in_turn hash bodies arrays n (x ∷ []) ≡ packet_line n (one_packet hash bodies x arrays).packet
+  one_line arrays n x = append-nil (packet_line n (one_packet hash bodies x arrays).packet)
 
   module _ (a0 a1 : List (List ℕ)) (h0 h1 h2 : Option (List ℕ)) (ps : List (ℕ × List ℕ)) (k number : ℕ) (words out : List ℕ) (d : ℕ × List ℕ) where
     front : k < length ps → map (λ p. p.1) (take (k + 1) ps) ≡ map (λ p. p.1) (take k ps) ++ (get_or ps k d).1 ∷ []
@@ -66,7 +66,7 @@ module _ (hash : Hash) (bodies : List BodyForm) where
     count inside is = omega (arith, is, inside, length-map (take k ps) (λ (p : ℕ × List ℕ). p.1), length-take k ps)
 
     -- the lines up to packet k, and its own
-    lines_front : k < length ps → number ≡ k + 1 → words ≡ (get_or ps k d).1 → a1 ≡ serial_arrays hash bodies a0 (map (λ p. p.1) (take k ps)) → out ≡ (one hash bodies words a1).packet
+    lines_front : k < length ps → number ≡ k + 1 → words ≡ (get_or ps k d).1 → a1 ≡ serial_arrays hash bodies a0 (map (λ p. p.1) (take k ps)) → out ≡ (one_packet hash bodies words a1).packet
         → lines_in_turn hash bodies a0 1 (map (λ p. p.1) (take (k + 1) ps)) ≡ lines_in_turn hash bodies a0 1 (map (λ p. p.1) (take k ps)) ++ packet_line number out
     lines_front inside is words_are arrays_are out_is =
         let before = map (λ (p : ℕ × List ℕ). p.1) (take k ps) in
@@ -75,16 +75,16 @@ module _ (hash : Hash) (bodies : List BodyForm) where
         ∙ ap (λ l. lines_in_turn hash bodies a0 1 before ++ l)
         (ap (λ m. lines_in_turn hash bodies (serial_arrays hash bodies a0 before) m ((get_or ps k d).1 ∷ [])) (count inside is)
         ∙ one_line (serial_arrays hash bodies a0 before) number (get_or ps k d).1
-        ∙ ap (packet_line number) (ap (λ a. (one hash bodies (get_or ps k d).1 a).packet) (sym arrays_are) ∙ ap (λ w. (one hash bodies w a1).packet) (sym words_are) ∙ sym out_is))
+        ∙ ap (packet_line number) (ap (λ a. (one_packet hash bodies (get_or ps k d).1 a).packet) (sym arrays_are) ∙ ap (λ w. (one_packet hash bodies w a1).packet) (sym words_are) ∙ sym out_is))
 
     -- one packet more
-    pub turn_more : (a2 : List (List ℕ)) → k < length ps → number ≡ k + 1 → words ≡ (get_or ps k d).1 → out ≡ (one hash bodies words a1).packet → a2 ≡ (one hash bodies words a1).arrays
+    pub turn_more : (a2 : List (List ℕ)) → k < length ps → number ≡ k + 1 → words ≡ (get_or ps k d).1 → out ≡ (one_packet hash bodies words a1).packet → a2 ≡ (one_packet hash bodies words a1).arrays
         → h2 ≡ appended h1 (packet_line number out) → RanInTurn hash bodies a0 a1 h0 h1 1 (map (λ p. p.1) (take k ps)) → RanInTurn hash bodies a0 a2 h0 h2 1 (map (λ p. p.1) (take (k + 1) ps))
     turn_more a2 inside is words_are out_is arrays_are put ran =
         let before = map (λ (p : ℕ × List ℕ). p.1) (take k ps) in
         record {
           arrays_are =
-              arrays_are ∙ ap (λ w. (one hash bodies w a1).arrays) words_are ∙ ap (λ a. (one hash bodies (get_or ps k d).1 a).arrays) ran.arrays_are
+              arrays_are ∙ ap (λ w. (one_packet hash bodies w a1).arrays) words_are ∙ ap (λ a. (one_packet hash bodies (get_or ps k d).1 a).arrays) ran.arrays_are
               ∙ sym (arrays-append a0 before ((get_or ps k d).1 ∷ [])) ∙ ap (serial_arrays hash bodies a0) (sym (front inside));
           held_is =
               put_then h0 h1 h2 (lines_in_turn hash bodies a0 1 before) (packet_line number out) ran.held_is put
@@ -92,7 +92,7 @@ module _ (hash : Hash) (bodies : List BodyForm) where
         }
 
     -- a stop at packet k
-    pub turn_stop : k < length ps → number ≡ k + 1 → words ≡ (get_or ps k d).1 → out ≡ (one hash bodies words a1).packet
+    pub turn_stop : k < length ps → number ≡ k + 1 → words ≡ (get_or ps k d).1 → out ≡ (one_packet hash bodies words a1).packet
         → IsPart h1 h2 (packet_line number out) → RanInTurn hash bodies a0 a1 h0 h1 1 (map (λ p. p.1) (take k ps)) → IsPart h0 h2 (lines_in_turn hash bodies a0 1 (map (λ p. p.1) ps))
     turn_stop inside is words_are out_is part ran =
         let before = map (λ (p : ℕ × List ℕ). p.1) (take k ps) in

@@ -9,7 +9,7 @@ use Rattle.dom_ast.specs.declared.part.Goal.TheVariants as goal
 use Rattle.dom_ast.specs.declared.part.Place.{Place}
 use Rattle.dom_ast.specs.Flanks.{FlankForm, flank_within, flanks_within, are_flanked}
 use Rattle.dom_ast.specs.Flanks as flank
-use Rattle.dom_ast.specs.Kept.{Mention, is_place, mention, part_within, place_within, target_within, visit_mentions}
+use Rattle.dom_ast.specs.Kept.{Mention, is_same_place, mention, part_within, place_within, target_within, visit_mentions}
 use Rattle.dom_ast.specs.Named.{NamedForm, read, make, write, ReadForm, are_named, are_outputs, is_read, is_read_at, is_same_operand, is_written, makes, makes_of}
 use Rattle.dom_ast.specs.Straight.{StepForm, step_visit, straight_ranges}
 use Rattle.ssa_names.specs.declared.operand.Operand.{Operand}
@@ -37,7 +37,7 @@ same_itself (Made k) = eq-eqb k k refl
 read_at_read : (ms : List Mention) (a : ℕ) (i : Place) → flank.is_read_at ms a i ≡ true → flank.is_read ms a ≡ true
 read_at_read [] a i e = absurd (cc)
 read_at_read (m ∷ ms) a i e =
-    ⊎_elim (λ (h : (nat_eq m.array a && is_place m.index i) ≡ true). or_left (nat_eq m.array a) (flank.is_read ms a) (and_parts (nat_eq m.array a) (is_place m.index i) h).0) (λ (h : flank.is_read_at ms a i ≡ true). or_right (nat_eq m.array a) (flank.is_read ms a) (read_at_read ms a i h)) (or_cases (nat_eq m.array a && is_place m.index i) (flank.is_read_at ms a i) e)
+    ⊎_elim (λ (h : (nat_eq m.array a && is_same_place m.index i) ≡ true). or_left (nat_eq m.array a) (flank.is_read ms a) (and_parts (nat_eq m.array a) (is_same_place m.index i) h).0) (λ (h : flank.is_read_at ms a i ≡ true). or_right (nat_eq m.array a) (flank.is_read ms a) (read_at_read ms a i h)) (or_cases (nat_eq m.array a && is_same_place m.index i) (flank.is_read_at ms a i) e)
 
 module _ (fields arrays names : ℕ) where
   -- there is something for each field, array and fresh name

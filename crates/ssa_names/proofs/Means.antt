@@ -14,7 +14,7 @@ use Rattle.dom_ast.specs.Flanks.{FlankEnv, FlankForm, all_flanked, flank_assigne
 use Rattle.dom_ast.specs.Flanks as flank
 use Rattle.dom_ast.specs.Kept.{Mention, part_within, parts_within, ops_within, place_within, goal_within, target_within}
 use Rattle.dom_ast.specs.Meaning.{Names, folded, place_word, put, value, values}
-use Rattle.dom_ast.specs.Named.{NamedEnv, NamedForm, read, make, write, all_named, makes, makes_of, named_names, named_outcome, named_step, named_value}
+use Rattle.dom_ast.specs.Named.{NamedEnv, NamedForm, read, make, write, all_named, makes, makes_of, item_names, named_outcome, named_step, named_value}
 use Rattle.dom_ast.specs.Resolved.{PartForm, number, field, state, fresh, made, call, un, chain, choice, PartForms, no_parts, part, OpForms, no_ops, op}
 use Rattle.dom_ast.specs.Straight.{StepForm, straight_ranges}
 use Rattle.ssa_names.specs.declared.operand.Operand.{Operand}
@@ -148,7 +148,7 @@ module _ (hash : Hash) (packet : List ℕ) (start : List (List ℕ)) (fields arr
   -- expressions have the same words
   module _ (before : NamedEnv) (now : Current) (env : FlankEnv) (s : Stands before.made now env) where
     abbrev named_in : Names
-    named_in = named_names packet before.made
+    named_in = item_names packet before.made
 
     operand_says : (o : Operand) (w : ℕ) → word before.made o ≡ w → value hash named_in (operand_form o) ≡ w
     operand_says o w is = word_value before o ∙ is

@@ -7,7 +7,7 @@ use Rattle.dom_ast.specs.declared.part.Goal.{Goal}
 use Rattle.dom_ast.specs.declared.part.Goal.TheVariants as goal
 use Rattle.dom_ast.specs.declared.part.Place.{Place}
 use Rattle.dom_ast.specs.declared.part.Place.TheVariants as place
-use Rattle.dom_ast.specs.Kept.{count_of, part_within, parts_within, ops_within}
+use Rattle.dom_ast.specs.Kept.{parts_count, part_within, parts_within, ops_within}
 use Rattle.dom_ast.specs.Named.{NamedForm, read, make, write, ReadForm, are_named, is_operand, is_read, is_read_at, is_written, makes_of, named_ranges, operand_within}
 use Rattle.dom_ast.specs.Resolved.{PartForm, number, field, state, fresh, made, call, un, chain, choice, PartForms, no_parts, part, OpForms, no_ops, op}
 use Rattle.dom_ast.specs.Straight.{straight_ranges}
@@ -104,7 +104,7 @@ module _ (fields arrays names : ℕ) where
   plain_fit before (chain p os) now o h e q = absurd (cc)
   plain_fit before (choice c p r) now o h e q = absurd (cc)
 
-  count_renamed : (now : Current) (ps : PartForms) → count_of (all_renamed now ps) ≡ count_of ps
+  count_renamed : (now : Current) (ps : PartForms) → parts_count (all_renamed now ps) ≡ parts_count ps
   count_renamed now no_parts = refl
   count_renamed now (part p ps) = ap suc (count_renamed now ps)
 
@@ -118,7 +118,7 @@ module _ (fields arrays names : ℕ) where
       renamed_within (fresh k) e = fit_part before (at now.fresh k) (fit_at before now.fresh k h.of_fresh)
       renamed_within (made k) e = absurd (cc)
       renamed_within (call unit ps) e =
-          let q = and_parts (nat_eq (count_of ps) unit.args) (parts_within (straight_ranges fields arrays names) ps) e in
+          let q = and_parts (nat_eq (parts_count ps) unit.args) (parts_within (straight_ranges fields arrays names) ps) e in
           and_from _ _ (ap (λ (n : ℕ). nat_eq n unit.args) (count_renamed now ps) ∙ q.0) (all_within ps q.1)
       renamed_within (un u p) e = renamed_within p e
       renamed_within (chain p os) e =

@@ -11,16 +11,16 @@ use Rattle.dom_ast.specs.declared.part.Goal.TheVariants as goal
 use Rattle.dom_ast.specs.declared.part.Place.{Place}
 use Rattle.dom_ast.specs.declared.part.Place.TheVariants as place
 use Rattle.dom_ast.specs.Flanks.{FlankForm, are_flanked, flank_within, flanks_within, is_read, is_read_at, is_written, read, set, write}
-use Rattle.dom_ast.specs.Kept.{Mention, Ranges, are_within, goal_mentions, goal_within, have_one_index, is_place, mention, mentions_in, part_mentions, part_within, place_within, visit_within}
+use Rattle.dom_ast.specs.Kept.{Mention, Ranges, are_within, goal_mentions, goal_within, have_one_index, is_same_place, mention, mentions_in, part_mentions, part_within, place_within, visit_within}
 use Rattle.dom_ast.specs.Straight.{StepForm, step_visit}
 use Rattle.state_flanks.specs.WithFlanks.{goal_index, is_mentioned, read_flank, read_flanks, step_mentions, target_index, with_flanks, with_reads, write_flank, write_flanks}
 use Rattle.state_flanks.proofs.Follows.{all_before, is_false}
 use Rattle.state_flanks.proofs.Mentions.{AllAt, Equal, same, other, equal, are_in_range, are_mentioned_after, at_first, at_parts, first_index, is_in_range, mentioned_after, mentioned_before, mentioned_now, mentioned_other, step_in_range, steps_mentions}
 use Rattle.state_flanks.proofs.Tests.{all_weaker, both, false_not, join, join_parts, or_left, or_right}
 
-is_place-refl : (i : Place) → is_place i i ≡ true
-is_place-refl (place.Word w) = eq-eqb w w refl
-is_place-refl (place.Field f) = eq-eqb f f refl
+is_same_place-refl : (i : Place) → is_same_place i i ≡ true
+is_same_place-refl (place.Word w) = eq-eqb w w refl
+is_same_place-refl (place.Field f) = eq-eqb f f refl
 
 -- the arrays that are mentioned are those that have been read, each at its index
 record Listed (index : ℕ → Place) (before reads : List Mention) : Type 0 where
@@ -31,11 +31,11 @@ read_at : (index : ℕ → Place) (reads : List Mention) (a : ℕ) → AllAt ind
 read_at index [] a at there = absurd (false≢true there)
 read_at index (m ∷ reads) a at there = by_number (equal m.array a) (read_at index reads a at.1)
   where
-    by_number : Equal m.array a → (is_read reads a ≡ true → is_read_at reads a (index a) ≡ true) → ((nat_eq m.array a && is_place m.index (index a)) || is_read_at reads a (index a)) ≡ true
+    by_number : Equal m.array a → (is_read reads a ≡ true → is_read_at reads a (index a) ≡ true) → ((nat_eq m.array a && is_same_place m.index (index a)) || is_read_at reads a (index a)) ≡ true
     by_number (same q t) rest =
-        or_left (nat_eq m.array a && is_place m.index (index a)) (is_read_at reads a (index a)) (join (nat_eq m.array a) (is_place m.index (index a)) t (ap (λ i. is_place i (index a)) (at.0 ∙ ap index q) ∙ is_place-refl (index a)))
+        or_left (nat_eq m.array a && is_same_place m.index (index a)) (is_read_at reads a (index a)) (join (nat_eq m.array a) (is_same_place m.index (index a)) t (ap (λ i. is_same_place i (index a)) (at.0 ∙ ap index q) ∙ is_same_place-refl (index a)))
     by_number (other q t) rest =
-        or_right (nat_eq m.array a && is_place m.index (index a)) (is_read_at reads a (index a)) (rest (ap (λ b. b || is_read reads a) (sym t) ∙ there))
+        or_right (nat_eq m.array a && is_same_place m.index (index a)) (is_read_at reads a (index a)) (rest (ap (λ b. b || is_read reads a) (sym t) ∙ there))
 
 module _ (index : ℕ → Place) where
   listed_known : (before reads : List Mention) (m : Mention) → is_mentioned before m.array ≡ true → Listed index before reads → Listed index (before ++ m ∷ []) reads

@@ -13,7 +13,7 @@ use Rattle.dom_ast.specs.declared.part.Goal.TheVariants as goal
 use Rattle.dom_ast.specs.declared.part.Place.{Place}
 use Rattle.dom_ast.specs.declared.part.Place.TheVariants as place
 use Rattle.dom_ast.specs.Flanks.{FlankEnv, FlankForm, all_flanked, flank_assigned, flank_names, flanked, read, set, write}
-use Rattle.dom_ast.specs.Kept.{Mention, Ranges, are_within, changes_none, goal_mentions, goal_within, is_no_index, is_place, keep_indexes, mention, ops_mentions, part_mentions, part_within, parts_mentions, visit_within}
+use Rattle.dom_ast.specs.Kept.{Mention, Ranges, are_within, changes_none, goal_mentions, goal_within, is_no_index, is_same_place, keep_indexes, mention, ops_mentions, part_mentions, part_within, parts_mentions, visit_within}
 use Rattle.dom_ast.specs.Meaning.{Env, assigned, folded, names_in, place_word, put, value, value_in, values}
 use Rattle.dom_ast.specs.Resolved.{PartForm, number, field, state, fresh, made, call, un, chain, choice, PartForms, no_parts, part, OpForms, no_ops, op}
 use Rattle.dom_ast.specs.Straight.{StepForm, all_stepped, step_visit, stepped}
@@ -31,7 +31,7 @@ pub is_false : (b : Bool) → (b ≡ true → ⊥) → b ≡ false
 is_false true no_way = absurd (no_way refl)
 is_false false no_way = refl
 
-place_stays : (i : Place) (k w : ℕ) (packet : List ℕ) → not (is_place i (place.Field k)) ≡ true → place_word i (slice_set packet k w) ≡ place_word i packet
+place_stays : (i : Place) (k w : ℕ) (packet : List ℕ) → not (is_same_place i (place.Field k)) ≡ true → place_word i (slice_set packet k w) ≡ place_word i packet
 place_stays (place.Word v) k w packet h = refl
 place_stays (place.Field j) k w packet h =
     get_or-set_other packet k j w 0 (λ (q : j ≡ k). false≢true (sym (not_true (nat_eq j k) h) ∙ eq-eqb j k q))
@@ -199,7 +199,7 @@ module _ (h : Hash) (index : ℕ → Place) (entered : List (List ℕ)) where
         ∙ folded_follow before done f e os (bin_word o w (value_in h e p)) s at_each.1 each.1
 
   -- a field that is no index gets a word
-  field_follows : (before : List Mention) (done : ℕ → Bool) (f : FlankEnv) (e : Env) (k w : ℕ) → ((a : ℕ) → is_mentioned before a ≡ true → not (is_place (index a) (place.Field k)) ≡ true) → Follows index entered before done f e → Follows index entered before done (flank_assigned (goal.Field k) w f) (assigned (goal.Field k) w e)
+  field_follows : (before : List Mention) (done : ℕ → Bool) (f : FlankEnv) (e : Env) (k w : ℕ) → ((a : ℕ) → is_mentioned before a ≡ true → not (is_same_place (index a) (place.Field k)) ≡ true) → Follows index entered before done f e → Follows index entered before done (flank_assigned (goal.Field k) w f) (assigned (goal.Field k) w e)
   field_follows before done f e k w free s = record {
     packets = ap (λ packet. slice_set packet k w) s.packets;
     names = s.names;

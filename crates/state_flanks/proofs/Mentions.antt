@@ -11,7 +11,7 @@ use Rattle.dom_ast.specs.declared.part.Goal.{Goal}
 use Rattle.dom_ast.specs.declared.part.Goal.TheVariants as goal
 use Rattle.dom_ast.specs.declared.part.Place.{Place}
 use Rattle.dom_ast.specs.declared.part.Place.TheVariants as place
-use Rattle.dom_ast.specs.Kept.{Mention, Ranges, agree, are_within, count_of, goal_mentions, goal_within, have_one_index, is_no_index, is_place, mention, mentions_in, ops_mentions, ops_within, part_mentions, part_within, parts_mentions, parts_within, place_within, visit_mentions, visit_within}
+use Rattle.dom_ast.specs.Kept.{Mention, Ranges, agree, are_within, parts_count, goal_mentions, goal_within, have_one_index, is_no_index, is_same_place, mention, mentions_in, ops_mentions, ops_within, part_mentions, part_within, parts_mentions, parts_within, place_within, visit_mentions, visit_within}
 use Rattle.dom_ast.specs.Resolved.{PartForm, number, field, state, fresh, made, call, un, chain, choice, PartForms, no_parts, part, OpForms, no_ops, op}
 use Rattle.dom_ast.specs.Straight.{StepForm, step_visit}
 use Rattle.state_flanks.specs.WithFlanks.{is_mentioned, step_mentions}
@@ -85,7 +85,7 @@ module _ (r : Ranges) where
     part_in_range (state a i) h = join (nat_lt a r.arrays && place_within r i) true h refl
     part_in_range (fresh k) h = refl
     part_in_range (made k) h = refl
-    part_in_range (call unit ps) h = parts_in_range ps (both (nat_eq (count_of ps) unit.args) (parts_within r ps) h).1
+    part_in_range (call unit ps) h = parts_in_range ps (both (nat_eq (parts_count ps) unit.args) (parts_within r ps) h).1
     part_in_range (un o p) h = part_in_range p h
     part_in_range (chain p os) h =
         let parts = both (part_within r p) (ops_within r os) h in
@@ -121,7 +121,7 @@ module _ (r : Ranges) where
   step_below s h =
       all_weaker (is_in_range r) (λ m. nat_lt m.array r.arrays) (λ m fits. (both (nat_lt m.array r.arrays) (place_within r m.index) fits).0) (step_mentions s) (step_in_range s h)
 
-pub place_same : (i j : Place) → is_place i j ≡ true → i ≡ j
+pub place_same : (i j : Place) → is_same_place i j ≡ true → i ≡ j
 place_same (place.Word w) (place.Word v) h = ap place.Word (eqb-true w v h)
 place_same (place.Word w) (place.Field f) h = absurd (false≢true h)
 place_same (place.Field f) (place.Word w) h = absurd (false≢true h)
@@ -154,7 +154,7 @@ found_first m (n ∷ ns) h found = by_number (equal n.array m.array) (λ there. 
 
     by_number : Equal n.array m.array → (is_mentioned ns m.array ≡ true → m.index ≡ first_index ns m.array) → m.index ≡ (if nat_eq n.array m.array then n.index else first_index ns m.array)
     by_number (same q e) rest =
-        let here : is_place m.index n.index ≡ true = ap (λ x. not x || is_place m.index n.index) (sym (eq-eqb m.array n.array (sym q))) ∙ parts.0 in
+        let here : is_same_place m.index n.index ≡ true = ap (λ x. not x || is_same_place m.index n.index) (sym (eq-eqb m.array n.array (sym q))) ∙ parts.0 in
         place_same m.index n.index here ∙ ap (λ (x : Bool). if x then n.index else first_index ns m.array) (sym e)
     by_number (other q e) rest =
         let later : is_mentioned ns m.array ≡ true = ap (λ x. x || is_mentioned ns m.array) (sym e) ∙ found in
@@ -171,13 +171,13 @@ at_first ms h = walk ms h (mentioned_themselves ms)
         (found_first n ms all.0 here.0, walk ns all.1 here.1)
 
 -- a field that is no index in these mentions is not the index of an array that they mention
-pub no_index_at : (index : ℕ → Place) (ms : List Mention) (f a : ℕ) → AllAt index ms → is_no_index ms f ≡ true → is_mentioned ms a ≡ true → not (is_place (index a) (place.Field f)) ≡ true
+pub no_index_at : (index : ℕ → Place) (ms : List Mention) (f a : ℕ) → AllAt index ms → is_no_index ms f ≡ true → is_mentioned ms a ≡ true → not (is_same_place (index a) (place.Field f)) ≡ true
 no_index_at index [] f a at h found = absurd (false≢true found)
 no_index_at index (m ∷ ms) f a at h found = by_number (equal m.array a) (λ there. no_index_at index ms f a at.1 parts.1 there)
   where
-    parts : (not (is_place m.index (place.Field f)) ≡ true) × (is_no_index ms f ≡ true)
-    parts = both (not (is_place m.index (place.Field f))) (is_no_index ms f) h
+    parts : (not (is_same_place m.index (place.Field f)) ≡ true) × (is_no_index ms f ≡ true)
+    parts = both (not (is_same_place m.index (place.Field f))) (is_no_index ms f) h
 
-    by_number : Equal m.array a → (is_mentioned ms a ≡ true → not (is_place (index a) (place.Field f)) ≡ true) → not (is_place (index a) (place.Field f)) ≡ true
-    by_number (same q e) rest = ap (λ i. not (is_place i (place.Field f))) (sym (at.0 ∙ ap index q)) ∙ parts.0
+    by_number : Equal m.array a → (is_mentioned ms a ≡ true → not (is_same_place (index a) (place.Field f)) ≡ true) → not (is_same_place (index a) (place.Field f)) ≡ true
+    by_number (same q e) rest = ap (λ i. not (is_same_place i (place.Field f))) (sym (at.0 ∙ ap index q)) ∙ parts.0
     by_number (other q e) rest = rest (ap (λ x. x || is_mentioned ms a) (sym e) ∙ found)

@@ -9,7 +9,7 @@ use Rattle.std.proofs.lemmas.List.Folds.{list_all-append}
 use Rattle.std.proofs.Common.{length-append}
 use Rattle.dom_words.specs.declared.operators.BinOp.{BinOp}
 use Rattle.dom_words.specs.declared.operators.BinOp.TheVariants.{Rem}
-use Rattle.dom_ast.specs.Kept.{count_of, ops_within, part_within, parts_within}
+use Rattle.dom_ast.specs.Kept.{parts_count, ops_within, part_within, parts_within}
 use Rattle.dom_ast.specs.Named.{named_ranges}
 use Rattle.dom_ast.specs.Resolved.{PartForm, number, field, state, fresh, made, call, un, chain, choice, PartForms, no_parts, part, OpForms, no_ops, op}
 use Rattle.dom_flat.specs.declared.line.Operand.{Operand}
@@ -217,10 +217,10 @@ module _ (fields arrays : ℕ) where
       places lines modulus (made k) small t s h = record { lines = s; operand = t k h }
       places lines modulus (call unit ps) small t s h =
           let r = named_ranges fields so_far in
-          let q = and_parts (nat_eq (count_of ps) unit.args) (parts_within r ps) h in
+          let q = and_parts (nat_eq (parts_count ps) unit.args) (parts_within r ps) h in
           let args = all_flattened fields values lines ps in
           let placed = all_place lines ps t s q.1 in
-          let count : length args.operands ≡ unit.args = args_count lines ps ∙ eqb-true (count_of ps) unit.args q.0 in
+          let count : length args.operands ≡ unit.args = args_count lines ps ∙ eqb-true (parts_count ps) unit.args q.0 in
           place_line args.lines (line.Hash unit modulus args.operands) placed.lines placed.operands refl (eq-eqb (length args.operands) unit.args count) small refl
       places lines modulus (un o p) small t s h =
           let a = flattened fields values lines 0 p in
@@ -253,7 +253,7 @@ module _ (fields arrays : ℕ) where
           place_line b.lines (line.Cond test.operand a.operand b.operand) z.lines
           (and_from (is_known (values_of fields b.lines) test.operand) _ x' (and_from (is_known (values_of fields b.lines) a.operand) _ y' (and_from (is_known (values_of fields b.lines) b.operand) true z.operand refl))) refl refl refl refl
 
-      args_count : (lines : List Line) (ps : PartForms) → length (all_flattened fields values lines ps).operands ≡ count_of ps
+      args_count : (lines : List Line) (ps : PartForms) → length (all_flattened fields values lines ps).operands ≡ parts_count ps
       args_count lines no_parts = refl
       args_count lines (part p ps) = ap suc (args_count (flattened fields values lines 0 p).lines ps)
 

@@ -15,9 +15,9 @@ use Rattle.dom_words.specs.Operators.{bin_word, chosen, reduced, un_word, word_o
 use Rattle.dom_words.specs.State.{Hash, IsSmallHash, Outcome, fetched, stored}
 use Rattle.dom_words.specs.declared.operators.BinOp.{BinOp}
 use Rattle.dom_words.specs.declared.operators.BinOp.TheVariants as binop
-use Rattle.dom_ast.specs.Kept.{count_of, ops_within, part_within, parts_within}
+use Rattle.dom_ast.specs.Kept.{parts_count, ops_within, part_within, parts_within}
 use Rattle.dom_ast.specs.Meaning.{Names, value, values as words_of, folded as folded_word}
-use Rattle.dom_ast.specs.Named.{NamedEnv, NamedForm, all_named, are_named, are_outputs, is_operand, make, makes_of, named_names, named_outcome, named_ranges, named_step, named_value, operand_within, read, write}
+use Rattle.dom_ast.specs.Named.{NamedEnv, NamedForm, all_named, are_named, are_outputs, is_operand, make, makes_of, item_names, named_outcome, named_ranges, named_step, named_value, operand_within, read, write}
 use Rattle.dom_ast.specs.Resolved.{PartForm, number, field, state, fresh, made, call, un, chain, choice, PartForms, no_parts, part, OpForms, no_ops, op, parts_of}
 use Rattle.dom_flat.specs.declared.line.Operand.{Operand}
 use Rattle.dom_flat.specs.declared.line.Operand.TheVariants.{Const, Value}
@@ -202,7 +202,7 @@ module _ (hash : Hash) (fields : ℕ) (packet : List ℕ) (start : List (List �
         }
 
     abbrev names : Names
-    names = named_names packet makings
+    names = item_names packet makings
 
     fused_call : (o : BinOp) (q : PartForm) (f : Flattened) (w : ℕ) → Takes o q → w < 2147483648 → Says f (reduced (op_modulus o q) w) → Says f (bin_word o w (value hash names q))
     fused_call o q f w (takes m is_o is_q some most is_m) h s =
@@ -264,7 +264,7 @@ module _ (hash : Hash) (fields : ℕ) (packet : List ℕ) (start : List (List �
         says lines modulus (made k) h e = record { below = h.below k e; word = h.made k e }
         says lines modulus (call unit ps) h e =
             let args = all_flattened fields values lines ps in
-            let q = and_parts (nat_eq (count_of ps) unit.args) (parts_within (named_ranges fields so_far) ps) e in
+            let q = and_parts (nat_eq (parts_count ps) unit.args) (parts_within (named_ranges fields so_far) ps) e in
             says_line args.lines (line.Hash unit modulus args.operands) _ (ap (λ (ws : List ℕ). reduced modulus (hash unit ws)) (all_say lines ps h q.1).word)
         says lines modulus (un o p) h e =
             let a = flattened fields values lines 0 p in
@@ -485,7 +485,7 @@ module _ (hash : Hash) (fields : ℕ) (packet : List ℕ) (start : List (List �
         subst (λ (bs : List Bool). Runs bs (with_items fields d (write a i p ∷ items)) (all_named hash packet env (write a i p ∷ items))) (append_assoc so_far (false ∷ []) (makes_of items))
         (items_run arrays items (so_far ++ false ∷ []) (with_item fields d (write a i p)) (named_step hash packet env (write a i p)) x.1 (write_runs so_far d env a i p i' p' r))
 
-    words_list : (env : NamedEnv) (ps : List PartForm) → words_of hash (named_names packet env.made) (parts_of ps) ≡ map (named_value hash packet env) ps
+    words_list : (env : NamedEnv) (ps : List PartForm) → words_of hash (item_names packet env.made) (parts_of ps) ≡ map (named_value hash packet env) ps
     words_list env [] = refl
     words_list env (p ∷ ps) = ap (λ (ws : List ℕ). named_value hash packet env p ∷ ws) (words_list env ps)
 
