@@ -1,5 +1,5 @@
 -- The names of a program that tokens spell are names, and stand among the words of the tokens.
-use Rattle.std.proofs.Common.{◌≡◌, ◌↔◌, ℕ, ◌+◌, ◌≤◌, Bool, true, false, not, ◌&&◌, ◌||◌, List, [], ◌∷◌, ◌++◌, length, map, codes, Option, Some, None, if◌then◌else◌, refl, sym, ap, ◌∙◌, subst, arith, append-nil}
+use Rattle.std.proofs.Common.{◌≡◌, ◌↔◌, ℕ, ◌≤◌, Bool, true, false, not, ◌||◌, List, [], ◌∷◌, ◌++◌, length, map, codes, Option, Some, None, if◌then◌else◌, refl, sym, ap, ◌∙◌, subst, arith, append-nil}
 use Rattle.std.specs.List.{cons_option, filter_map, list_all, sum_by}
 use Rattle.std.proofs.lemmas.Bool.{and_from, and_parts}
 use Rattle.std.proofs.lemmas.List.Elements.{filter_map-append}
@@ -14,13 +14,12 @@ use Rattle.dom_lexer.specs.declared.token.Sym.TheVariants as sym
 use Rattle.dom_lexer.specs.declared.token.Token.{Token}
 use Rattle.dom_lexer.specs.declared.token.TokenKind.{TokenKind}
 use Rattle.dom_lexer.specs.declared.token.TokenKind.TheVariants as token
-use Rattle.dom_ast.specs.declared.program.Head.{Head}
 use Rattle.dom_ast.specs.HeadNames.{declared_names, head_names}
 use Rattle.dom_ast.specs.Form.{ProgramForm}
 use Rattle.dom_parser.specs.declared.kinds.Fixed.TheVariants as fixed
 use Rattle.dom_parser.specs.declared.kinds.Kind.{Kind}
 use Rattle.dom_parser.specs.declared.kinds.Kind.TheVariants as kind
-use Rattle.dom_parser.specs.Grammar.{Decl, Decls, Fields, Program, Spells, Structure, a_define, a_field_of, a_global, a_struct, decl_tokens, decl_tree, decls_tokens, decls_trees, field_tokens, field_trees, no_decls, no_fields, program, program_tokens, program_tree, sign, struct_tokens, struct_tree, then_decl, transaction_tokens, transactions_tokens}
+use Rattle.dom_parser.specs.Grammar.{Decl, Decls, Field, Program, Spells, Structure, a_define, a_global, decl_tokens, decl_tree, decls_tokens, decls_trees, fields_tokens, fields_trees, no_decls, program, program_tokens, program_tree, sign, struct_tokens, struct_tree, then_decl, transaction_tokens, transactions_tokens}
 use Rattle.dom_parser.specs.Names.{AreNamedBy}
 use Rattle.dom_parser.specs.Tokens.{Mark, kind_by, mark, name_text, symbol_kind, token_kind, word_kind, word_text}
 use Rattle.dom_parser.specs.inner.AtPlace.{is_name as is_name_kind}
@@ -183,24 +182,26 @@ among_front xs front back a =
 
 decl_among : (d : Decl) → Among (head_names (decl_tree d)) (names_in (decl_tokens d))
 decl_among (a_define p q r n c) = among_none (names_in (decl_tokens (a_define p q r n c)))
-decl_among (a_global p q n z s r) = among_name n [] _ (among_none _)
+decl_among (a_global m z s) = among_name m.name [] _ (among_none _)
 
 decls_among : (d : Decls) → Among (declared_names (decls_trees d)) (names_in (decls_tokens d))
 decls_among no_decls = among_none []
 decls_among (then_decl a d) = among_both (head_names (decl_tree a)) (declared_names (decls_trees d)) (decl_tokens a) (decls_tokens d) (decl_among a) (decls_among d)
 
-abbrev texts : Fields → List (List ℕ)
-texts f = map (λ (x : ℕ × List ℕ). x.1) (field_trees f)
+abbrev texts : List Field → List (List ℕ)
+texts f = map (λ (x : ℕ × List ℕ). x.1) (fields_trees f)
 
-fields_among : (f : Fields) → Among (texts f) (names_in (field_tokens f))
-fields_among no_fields = among_none []
-fields_among (a_field_of p q n r f) = among_name n (texts f) (names_in (field_tokens f)) (fields_among f)
+fields_among : (f : List Field) → Among (texts f) (names_in (fields_tokens f))
+fields_among [] = among_none []
+fields_among (x ∷ f) = among_name x.name (texts f) (names_in (fields_tokens f)) (fields_among f)
 
 struct_among : (s : Structure) → Among (head_names (struct_tree s)) (names_in (struct_tokens s))
-struct_among (a_struct p q n o i r m t f c s) =
-    let tail : List Mark = sign fixed.CloseBrace c ∷ sign fixed.Semi s ∷ [] in
-    let behind : List (List ℕ) = names_in (field_tokens f ++ tail) in
-    among_behind n (m ∷ texts f) (m ∷ behind) (among_name m (texts f) behind (among_front (texts f) (field_tokens f) tail (fields_among f)))
+struct_among s =
+    let f = s.others in
+    let m = (s.first).name in
+    let tail : List Mark = sign fixed.CloseBrace s.close_at ∷ sign fixed.Semi s.semi_at ∷ [] in
+    let behind : List (List ℕ) = names_in (fields_tokens f ++ tail) in
+    among_behind s.tag (m ∷ texts f) (m ∷ behind) (among_name m (texts f) behind (among_front (texts f) (fields_tokens f) tail (fields_among f)))
 
 way_among : (way : Program) → Among (declared_names (program_tree way).heads) (names_in (program_tokens way))
 way_among (program d s e t ts) =

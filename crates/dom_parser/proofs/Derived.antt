@@ -20,7 +20,7 @@ use Rattle.dom_parser.specs.declared.kinds.Declared.{Declared}
 use Rattle.dom_parser.specs.declared.kinds.Declared.TheVariants as declared
 use Rattle.dom_parser.specs.Tokens.{Mark, name_text, is_minus, number_first}
 use Rattle.dom_parser.specs.inner.AtPlace.{is_fixed, is_name, number_of, operator_of, unary_of}
-use Rattle.dom_parser.specs.Grammar.{top, sign, name_mark, number_mark, bin_mark, un_mark, un_kind, Way, a_number, a_negated, a_word, a_field, an_index, a_call, in_parens, operated, level_of, More, stop, and_then, if_so, Args, no_args, some_args, MoreArgs, last_arg, next_arg, MakesNode, IsAt, IsAfter, AreArgs, AreMoreArgs, tokens, more_tokens, arg_tokens, more_arg_tokens, TargetWay, target_word, target_field, target_index, IsTarget, target_tokens, Assign, assigned, IsAssign, assign_tokens, Stmts, no_more, then_stmt, Stmt, an_assign, an_if, Body, body_block, body_assign, Else, no_else, else_block, else_stmt, AreStmts, IsStmt, IsBody, IsElse, stmts_tokens, stmt_tokens, body_tokens, else_tokens, Constant, plain, negative, constant_tokens, Value, a_constant, a_name, value_tokens, Start, no_start, bare, braced, start_tokens, Size, no_size, number_size, name_size, size_tokens, Decl, a_define, a_global, decl_tokens, Decls, no_decls, then_decl, decls_tokens, Fields, no_fields, a_field_of, field_tokens, Structure, a_struct, struct_tokens, Guard, no_guard, a_guard, IsGuard, guard_tokens, Transaction, a_transaction, IsTransaction, transaction_tokens, Transactions, no_others, another, AreTransactions, transactions_tokens, Program, program, IsProgram, program_tokens}
+use Rattle.dom_parser.specs.Grammar.{top, sign, name_mark, number_mark, bin_mark, un_mark, un_kind, Way, a_number, a_negated, a_word, a_field, an_index, a_call, in_parens, operated, level_of, More, stop, and_then, if_so, Args, no_args, some_args, MoreArgs, last_arg, next_arg, MakesNode, IsAt, IsAfter, AreArgs, AreMoreArgs, tokens, more_tokens, arg_tokens, more_arg_tokens, TargetWay, target_word, target_field, target_index, IsTarget, target_tokens, Assign, assigned, IsAssign, assign_tokens, Stmts, no_more, then_stmt, Stmt, an_assign, an_if, Body, body_block, body_assign, Else, no_else, else_block, else_stmt, AreStmts, IsStmt, IsBody, IsElse, stmts_tokens, stmt_tokens, body_tokens, else_tokens, Constant, plain, negative, constant_tokens, Value, a_constant, a_name, value_tokens, Start, no_start, bare, braced, start_tokens, Size, no_size, number_size, name_size, size_tokens, Decl, a_define, a_global, decl_tokens, Decls, no_decls, then_decl, decls_tokens, Field, fields_tokens, Structure, struct_tokens, Guard, no_guard, a_guard, IsGuard, guard_tokens, Transaction, IsTransaction, transaction_tokens, AreTransactions, transactions_tokens, Program, program, IsProgram, program_tokens}
 use Rattle.dom_parser.specs.inner.Following as item
 use Rattle.dom_parser.specs.inner.Following.{Item, begin_of, begin_row, expand, may_skip, resume, step, held, Trace, fine, stuck, count, on_step, trace, when, then_row}
 use Rattle.dom_parser.proofs.KnownKinds.{kind_fixed, kind_name, kind_number, kind_minus, kind_unary, kind_operator, begin_paren, begin_number, begin_name, suffix_dot, suffix_bracket, suffix_paren, lead_block, lead_if, lead_assign, declared_define, declared_global}
@@ -55,12 +55,12 @@ Of item.start ts = (x : ℕ) → (v : Start) × (sign fixed.Assign x ∷ ts ≡ 
 Of item.start_part ts = (v : Start) × (ts ≡ start_tokens v)
 Of item.size ts = (x y : ℕ) → (z : Size) × (sign fixed.OpenBracket x ∷ (ts ++ sign fixed.CloseBracket y ∷ []) ≡ size_tokens z)
 Of item.size_part ts = (z : Size) × (ts ≡ size_tokens z)
-Of item.fields ts = (f : Fields) × (ts ≡ field_tokens f)
-Of item.field_block ts = (o : ℕ) × (i : ℕ) × (r : ℕ) × (t : ℕ) × (c : ℕ) × (m : List ℕ) × (f : Fields) × (ts ≡ sign fixed.OpenBrace o ∷ sign fixed.Int i ∷ name_mark r m ∷ sign fixed.Semi t ∷ (field_tokens f ++ sign fixed.CloseBrace c ∷ []))
+Of item.fields ts = (f : List Field) × (ts ≡ fields_tokens f)
+Of item.field_block ts = (o : ℕ) × (x : Field) × (f : List Field) × (c : ℕ) × (ts ≡ sign fixed.OpenBrace o ∷ (fields_tokens (x ∷ f) ++ sign fixed.CloseBrace c ∷ []))
 Of item.structure ts = (z : Structure) × (ts ≡ struct_tokens z)
 Of item.header ts = (o : ℕ) × (z : ℕ) × (r : ℕ) × (t : List ℕ) × (u : ℕ) × (v : List ℕ) × (c : ℕ) × (ts ≡ sign fixed.OpenParen o ∷ sign fixed.Struct z ∷ name_mark r t ∷ name_mark u v ∷ sign fixed.CloseParen c ∷ [])
 Of item.guard ts = (g : Guard) × IsGuard g × (ts ≡ guard_tokens g)
-Of item.transactions ts = (t : Transactions) × AreTransactions t × (ts ≡ transactions_tokens t)
+Of item.transactions ts = (t : List Transaction) × AreTransactions t × (ts ≡ transactions_tokens t)
 
 abbrev OfRow : List Item → List Mark → Type 0
 OfRow [] ts = ts ≡ []
@@ -95,12 +95,12 @@ of_nothing item.start e = absurd (cc)
 of_nothing item.start_part e = (no_start, refl)
 of_nothing item.size e = absurd (cc)
 of_nothing item.size_part e = (no_size, refl)
-of_nothing item.fields e = (no_fields, refl)
+of_nothing item.fields e = ([], refl)
 of_nothing item.field_block e = absurd (cc)
 of_nothing item.structure e = absurd (cc)
 of_nothing item.header e = absurd (cc)
 of_nothing item.guard e = (no_guard, tt, refl)
-of_nothing item.transactions e = (no_others, tt, refl)
+of_nothing item.transactions e = ([], tt, refl)
 
 -- a token without a text where it is no name
 abbrev pub Clean : Mark → Type 0
@@ -278,7 +278,7 @@ if_of t ts c k d =
     let f = row4 item.condition item.body item.else_part item.ended ts d in
     let a = f.5 in let b = f.6 in let e = f.7 in
     let tail : f.1 ++ (f.2 ++ f.3) ≡ body_tokens b.0 ++ else_tokens e.0 = ap (λ (y : List Mark). y ++ (f.2 ++ f.3)) b.2 ∙ ap (λ (y : List Mark). body_tokens b.0 ++ (f.2 ++ y)) f.8 ∙ ap (λ (y : List Mark). body_tokens b.0 ++ y) (append-nil f.2 ∙ e.2) in
-    (an_if t.place a.0 a.1 a.2 b.0 e.0, (a.3, b.1, e.1), ap (λ (y : Mark). y ∷ ts) (as_mark t (kind.Fixed fixed.If) c k) ∙ ap (λ (y : List Mark). sign fixed.If t.place ∷ y) (f.4 ∙ ap (λ (y : List Mark). y ++ (f.1 ++ (f.2 ++ f.3))) a.4 ∙ ap (λ (y : List Mark). (sign fixed.OpenParen a.0 ∷ (tokens a.1 ++ sign fixed.CloseParen a.2 ∷ [])) ++ y) tail ∙ ap (λ (y : List Mark). sign fixed.OpenParen a.0 ∷ y) (append_assoc (tokens a.1) (sign fixed.CloseParen a.2 ∷ []) (body_tokens b.0 ++ else_tokens e.0))))
+    (an_if (record { if_at = t.place; open_at = a.0; close_at = a.2 }) a.1 b.0 e.0, (a.3, b.1, e.1), ap (λ (y : Mark). y ∷ ts) (as_mark t (kind.Fixed fixed.If) c k) ∙ ap (λ (y : List Mark). sign fixed.If t.place ∷ y) (f.4 ∙ ap (λ (y : List Mark). y ++ (f.1 ++ (f.2 ++ f.3))) a.4 ∙ ap (λ (y : List Mark). (sign fixed.OpenParen a.0 ∷ (tokens a.1 ++ sign fixed.CloseParen a.2 ∷ [])) ++ y) tail ∙ ap (λ (y : List Mark). sign fixed.OpenParen a.0 ∷ y) (append_assoc (tokens a.1) (sign fixed.CloseParen a.2 ∷ []) (body_tokens b.0 ++ else_tokens e.0))))
 
 block_of : (t : Mark) (ts : List Mark) → Clean t → t.kind ≡ kind.Fixed fixed.OpenBrace → OfRow item.block_row ts → Of item.block (t ∷ ts)
 block_of t ts c k d =
@@ -374,7 +374,7 @@ from_decl t declared.Define row ts c e r d =
     (a_define t.place f.4.0 f.5.0 f.5.1 f.6.0, ap (λ (y : Mark). y ∷ ts) (as_mark t (kind.Fixed fixed.Hash) c (declared_define t.kind e)) ∙ ap (λ (y : List Mark). sign fixed.Hash t.place ∷ y) (f.3 ∙ ap (λ (y : List Mark). y ++ (f.1 ++ f.2)) f.4.1 ∙ ap (λ (y : List Mark). sign fixed.Define f.4.0 ∷ (y ++ f.2)) f.5.2 ∙ ap (λ (y : List Mark). sign fixed.Define f.4.0 ∷ name_mark f.5.0 f.5.1 ∷ y) f.6.1))
 from_decl t declared.Global row ts c e r d =
     let f = row4 item.a_name item.size_part item.start_part (item.term fixed.Semi) ts (same_row (item.a_name ∷ item.size_part ∷ item.start_part ∷ item.term fixed.Semi ∷ []) row ts r d) in
-    (a_global t.place f.5.0 f.5.1 f.6.0 f.7.0 f.8.0, ap (λ (y : Mark). y ∷ ts) (as_mark t (kind.Fixed fixed.Int) c (declared_global t.kind e)) ∙ ap (λ (y : List Mark). sign fixed.Int t.place ∷ y) (f.4 ∙ ap (λ (y : List Mark). y ++ (f.1 ++ (f.2 ++ f.3))) f.5.2 ∙ ap (λ (y : List Mark). name_mark f.5.0 f.5.1 ∷ (y ++ (f.2 ++ f.3))) f.6.1 ∙ ap (λ (y : List Mark). name_mark f.5.0 f.5.1 ∷ (size_tokens f.6.0 ++ (y ++ f.3))) f.7.1 ∙ ap (λ (y : List Mark). name_mark f.5.0 f.5.1 ∷ (size_tokens f.6.0 ++ (start_tokens f.7.0 ++ y))) f.8.1))
+    (a_global (record { int_at = t.place; name_at = f.5.0; name = f.5.1; semi_at = f.8.0 }) f.6.0 f.7.0, ap (λ (y : Mark). y ∷ ts) (as_mark t (kind.Fixed fixed.Int) c (declared_global t.kind e)) ∙ ap (λ (y : List Mark). sign fixed.Int t.place ∷ y) (f.4 ∙ ap (λ (y : List Mark). y ++ (f.1 ++ (f.2 ++ f.3))) f.5.2 ∙ ap (λ (y : List Mark). name_mark f.5.0 f.5.1 ∷ (y ++ (f.2 ++ f.3))) f.6.1 ∙ ap (λ (y : List Mark). name_mark f.5.0 f.5.1 ∷ (size_tokens f.6.0 ++ (y ++ f.3))) f.7.1 ∙ ap (λ (y : List Mark). name_mark f.5.0 f.5.1 ∷ (size_tokens f.6.0 ++ (start_tokens f.7.0 ++ y))) f.8.1))
 from_decl t declared.Other row ts c e r d = absurd (cc)
 
 from_decls : (t : Mark) (row : List Item) (ts : List Mark) → Clean t → then_row (item.decl_row (item.declared_of t.kind)) (item.decls ∷ []) ≡ Some row → OfRow row ts → Of item.decls (t ∷ ts)
@@ -388,7 +388,7 @@ from_fields : (t : Mark) (row : List Item) (ts : List Mark) → Clean t → when
 from_fields t row ts c r d =
     let s = on_sign fixed.Int t (item.a_name ∷ item.term fixed.Semi ∷ item.fields ∷ []) row ts c r d in
     let f = row3 item.a_name (item.term fixed.Semi) item.fields ts s.1 in
-    (a_field_of t.place f.4.0 f.4.1 f.5.0 f.6.0, ap (λ (y : Mark). y ∷ ts) s.0 ∙ ap (λ (y : List Mark). sign fixed.Int t.place ∷ y) (f.3 ∙ ap (λ (y : List Mark). y ++ (f.1 ++ f.2)) f.4.2 ∙ ap (λ (y : List Mark). name_mark f.4.0 f.4.1 ∷ (y ++ f.2)) f.5.1 ∙ ap (λ (y : List Mark). name_mark f.4.0 f.4.1 ∷ sign fixed.Semi f.5.0 ∷ y) f.6.1))
+    (record { int_at = t.place; name_at = f.4.0; name = f.4.1; semi_at = f.5.0 } ∷ f.6.0, ap (λ (y : Mark). y ∷ ts) s.0 ∙ ap (λ (y : List Mark). sign fixed.Int t.place ∷ y) (f.3 ∙ ap (λ (y : List Mark). y ++ (f.1 ++ f.2)) f.4.2 ∙ ap (λ (y : List Mark). name_mark f.4.0 f.4.1 ∷ (y ++ f.2)) f.5.1 ∙ ap (λ (y : List Mark). name_mark f.4.0 f.4.1 ∷ sign fixed.Semi f.5.0 ∷ y) f.6.1))
 
 from_field_block : (t : Mark) (row : List Item) (ts : List Mark) → Clean t → when (is_fixed fixed.OpenBrace t.kind) (item.term fixed.Int ∷ item.a_name ∷ item.term fixed.Semi ∷ item.fields ∷ item.close fixed.CloseBrace ∷ []) ≡ Some row → OfRow row ts → Of item.field_block (t ∷ ts)
 from_field_block t row ts c r d =
@@ -396,14 +396,14 @@ from_field_block t row ts c r d =
     let g = s.1 in
     let i = g.3 in
     let f = row4 item.a_name (item.term fixed.Semi) item.fields (item.close fixed.CloseBrace) g.1 g.4 in
-    (t.place, i.0, f.5.0, f.6.0, f.8.0, f.5.1, f.7.0, ap (λ (y : Mark). y ∷ ts) s.0 ∙ ap (λ (y : List Mark). sign fixed.OpenBrace t.place ∷ y) (g.2 ∙ ap (λ (y : List Mark). y ++ g.1) i.1 ∙ ap (λ (y : List Mark). sign fixed.Int i.0 ∷ y) (f.4 ∙ ap (λ (y : List Mark). y ++ (f.1 ++ (f.2 ++ f.3))) f.5.2 ∙ ap (λ (y : List Mark). name_mark f.5.0 f.5.1 ∷ (y ++ (f.2 ++ f.3))) f.6.1 ∙ ap (λ (y : List Mark). name_mark f.5.0 f.5.1 ∷ sign fixed.Semi f.6.0 ∷ (y ++ f.3)) f.7.1 ∙ ap (λ (y : List Mark). name_mark f.5.0 f.5.1 ∷ sign fixed.Semi f.6.0 ∷ (field_tokens f.7.0 ++ y)) f.8.1)))
+    (t.place, record { int_at = i.0; name_at = f.5.0; name = f.5.1; semi_at = f.6.0 }, f.7.0, f.8.0, ap (λ (y : Mark). y ∷ ts) s.0 ∙ ap (λ (y : List Mark). sign fixed.OpenBrace t.place ∷ y) (g.2 ∙ ap (λ (y : List Mark). y ++ g.1) i.1 ∙ ap (λ (y : List Mark). sign fixed.Int i.0 ∷ y) (f.4 ∙ ap (λ (y : List Mark). y ++ (f.1 ++ (f.2 ++ f.3))) f.5.2 ∙ ap (λ (y : List Mark). name_mark f.5.0 f.5.1 ∷ (y ++ (f.2 ++ f.3))) f.6.1 ∙ ap (λ (y : List Mark). name_mark f.5.0 f.5.1 ∷ sign fixed.Semi f.6.0 ∷ (y ++ f.3)) f.7.1 ∙ ap (λ (y : List Mark). name_mark f.5.0 f.5.1 ∷ sign fixed.Semi f.6.0 ∷ (fields_tokens f.7.0 ++ y)) f.8.1)))
 
 from_structure : (t : Mark) (row : List Item) (ts : List Mark) → Clean t → when (is_fixed fixed.Struct t.kind) (item.a_name ∷ item.field_block ∷ item.term fixed.Semi ∷ []) ≡ Some row → OfRow row ts → Of item.structure (t ∷ ts)
 from_structure t row ts c r d =
     let s = on_sign fixed.Struct t (item.a_name ∷ item.field_block ∷ item.term fixed.Semi ∷ []) row ts c r d in
     let f = row3 item.a_name item.field_block (item.term fixed.Semi) ts s.1 in
     let b = f.5 in
-    (a_struct t.place f.4.0 f.4.1 b.0 b.1 b.2 b.5 b.3 b.6 b.4 f.6.0, ap (λ (y : Mark). y ∷ ts) s.0 ∙ ap (λ (y : List Mark). sign fixed.Struct t.place ∷ y) (f.3 ∙ ap (λ (y : List Mark). y ++ (f.1 ++ f.2)) f.4.2 ∙ ap (λ (y : List Mark). name_mark f.4.0 f.4.1 ∷ (y ++ f.2)) b.7 ∙ ap (λ (y : List Mark). name_mark f.4.0 f.4.1 ∷ ((sign fixed.OpenBrace b.0 ∷ sign fixed.Int b.1 ∷ name_mark b.2 b.5 ∷ sign fixed.Semi b.3 ∷ (field_tokens b.6 ++ sign fixed.CloseBrace b.4 ∷ [])) ++ y)) f.6.1 ∙ ap (λ (y : List Mark). name_mark f.4.0 f.4.1 ∷ sign fixed.OpenBrace b.0 ∷ sign fixed.Int b.1 ∷ name_mark b.2 b.5 ∷ sign fixed.Semi b.3 ∷ y) (append_assoc (field_tokens b.6) (sign fixed.CloseBrace b.4 ∷ []) (sign fixed.Semi f.6.0 ∷ []))))
+    (record { struct_at = t.place; tag_at = f.4.0; tag = f.4.1; open_at = b.0; first = b.1; others = b.2; close_at = b.3; semi_at = f.6.0 }, ap (λ (y : Mark). y ∷ ts) s.0 ∙ ap (λ (y : List Mark). sign fixed.Struct t.place ∷ y) (f.3 ∙ ap (λ (y : List Mark). y ++ (f.1 ++ f.2)) f.4.2 ∙ ap (λ (y : List Mark). name_mark f.4.0 f.4.1 ∷ (y ++ f.2)) b.4 ∙ ap (λ (y : List Mark). name_mark f.4.0 f.4.1 ∷ ((sign fixed.OpenBrace b.0 ∷ sign fixed.Int b.1.int_at ∷ name_mark b.1.name_at b.1.name ∷ sign fixed.Semi b.1.semi_at ∷ (fields_tokens b.2 ++ sign fixed.CloseBrace b.3 ∷ [])) ++ y)) f.6.1 ∙ ap (λ (y : List Mark). name_mark f.4.0 f.4.1 ∷ sign fixed.OpenBrace b.0 ∷ sign fixed.Int b.1.int_at ∷ name_mark b.1.name_at b.1.name ∷ sign fixed.Semi b.1.semi_at ∷ y) (append_assoc (fields_tokens b.2) (sign fixed.CloseBrace b.3 ∷ []) (sign fixed.Semi f.6.0 ∷ []))))
 
 from_header : (t : Mark) (row : List Item) (ts : List Mark) → Clean t → when (is_fixed fixed.OpenParen t.kind) (item.term fixed.Struct ∷ item.a_name ∷ item.a_name ∷ item.close fixed.CloseParen ∷ []) ≡ Some row → OfRow row ts → Of item.header (t ∷ ts)
 from_header t row ts c r d =
@@ -422,7 +422,7 @@ described : (x : ℕ) (ts : List Mark) → OfRow (item.a_name ∷ item.header �
 described x ts d =
     let f = row4 item.a_name item.header item.guard item.block ts d in
     let n = f.5 in let h = f.6 in let g = f.7 in let b = f.8 in
-    (a_transaction x n.0 n.1 h.0 h.1 h.2 h.3 h.4 h.5 h.6 g.0 b.0 b.1 b.2, (g.1, b.3), ap (λ (y : List Mark). sign fixed.Void x ∷ y) (f.4 ∙ ap (λ (y : List Mark). y ++ (f.1 ++ (f.2 ++ f.3))) n.2 ∙ ap (λ (y : List Mark). name_mark n.0 n.1 ∷ (y ++ (f.2 ++ f.3))) h.7 ∙ ap (λ (y : List Mark). name_mark n.0 n.1 ∷ sign fixed.OpenParen h.0 ∷ sign fixed.Struct h.1 ∷ name_mark h.2 h.3 ∷ name_mark h.4 h.5 ∷ sign fixed.CloseParen h.6 ∷ (y ++ f.3)) g.2 ∙ ap (λ (y : List Mark). name_mark n.0 n.1 ∷ sign fixed.OpenParen h.0 ∷ sign fixed.Struct h.1 ∷ name_mark h.2 h.3 ∷ name_mark h.4 h.5 ∷ sign fixed.CloseParen h.6 ∷ (guard_tokens g.0 ++ y)) b.4))
+    (record { void_at = x; name_at = n.0; name = n.1; open_at = h.0; struct_at = h.1; tag_at = h.2; tag = h.3; param_at = h.4; param = h.5; close_at = h.6; guard = g.0; begin_at = b.0; body = b.1; end_at = b.2 }, (g.1, b.3), ap (λ (y : List Mark). sign fixed.Void x ∷ y) (f.4 ∙ ap (λ (y : List Mark). y ++ (f.1 ++ (f.2 ++ f.3))) n.2 ∙ ap (λ (y : List Mark). name_mark n.0 n.1 ∷ (y ++ (f.2 ++ f.3))) h.7 ∙ ap (λ (y : List Mark). name_mark n.0 n.1 ∷ sign fixed.OpenParen h.0 ∷ sign fixed.Struct h.1 ∷ name_mark h.2 h.3 ∷ name_mark h.4 h.5 ∷ sign fixed.CloseParen h.6 ∷ (y ++ f.3)) g.2 ∙ ap (λ (y : List Mark). name_mark n.0 n.1 ∷ sign fixed.OpenParen h.0 ∷ sign fixed.Struct h.1 ∷ name_mark h.2 h.3 ∷ name_mark h.4 h.5 ∷ sign fixed.CloseParen h.6 ∷ (guard_tokens g.0 ++ y)) b.4))
 
 from_void : (t : Mark) (row : List Item) (ts : List Mark) → Clean t → when (is_fixed fixed.Void t.kind) (item.a_name ∷ item.header ∷ item.guard ∷ item.block ∷ item.transactions ∷ []) ≡ Some row → OfRow row ts → Of item.transactions (t ∷ ts)
 from_void t row ts c r d =
@@ -430,7 +430,7 @@ from_void t row ts c r d =
     let f = row_split (item.a_name ∷ item.header ∷ item.guard ∷ item.block ∷ []) (item.transactions ∷ []) ts s.1 in
     let g = described t.place f.0 f.3 in
     let k = row1 item.transactions f.1 f.4 in
-    (another g.0 k.0, (g.1, k.1), ap (λ (y : Mark). y ∷ ts) s.0 ∙ ap (λ (y : List Mark). sign fixed.Void t.place ∷ y) f.2 ∙ ap (λ (y : List Mark). y ++ f.1) g.2 ∙ ap (λ (y : List Mark). transaction_tokens g.0 ++ y) k.2)
+    (g.0 ∷ k.0, (g.1, k.1), ap (λ (y : Mark). y ∷ ts) s.0 ∙ ap (λ (y : List Mark). sign fixed.Void t.place ∷ y) f.2 ∙ ap (λ (y : List Mark). y ++ f.1) g.2 ∙ ap (λ (y : List Mark). transaction_tokens g.0 ++ y) k.2)
 
 -- a token that begins an item, and what the row after it stands for
 back : (i : Item) (t : Mark) (n : Bool) (row : List Item) (ts : List Mark) → Clean t → Tells n ts → expand i t.kind n ≡ Some row → OfRow row ts → Of i (t ∷ ts)

@@ -308,7 +308,7 @@ reads_global l p q u x t z v e a r k c f g =
       forth = omega arith;
       within = omega arith;
       reads = row_read item.decl (item.a_name ∷ item.size_part ∷ item.start_part ∷ term fixed.Semi ∷ []) 0 l p (u + 1) (define_at l p declared.Global e) (omega arith) (row_one item.a_name (item.size_part ∷ item.start_part ∷ term fixed.Semi ∷ []) 0 0 l (p + 1) (p + 2) (u + 1) (omega arith) (global_to l p a) (row_one item.size_part (item.start_part ∷ term fixed.Semi ∷ []) 0 0 l (p + 2) q (u + 1) (omega arith) r.reads (row_one item.start_part (term fixed.Semi ∷ []) 0 0 l q u (u + 1) (omega arith) k.reads (row_one (term fixed.Semi) [] 0 0 l u (u + 1) (u + 1) (omega arith) (read_term fixed.Semi 0 l u c (omega arith)) (row_none 0 l (u + 1))))));
-      spelled = (sign fixed.Int o ∷ n ∷ (size_tokens size_way ++ (start_tokens start_way ++ sign fixed.Semi y ∷ [])), sign_mark fixed.Int l p (declared_global (stands l p) e) ∙ ap (λ (b : List Mark). sign fixed.Int o ∷ b) (second ∙ ap (λ (b : List Mark). n ∷ b) both), (a_global o (offset_at l (p + 1)) (text_at l (p + 1)) size_way start_way y, refl, ap (λ (b : ℕ). head.Global b (text_at l (p + 1)) (size_tree size_way) (start_tree start_way)) (sym f) ∙ ap (λ (b : List ℕ). head.Global x b (size_tree size_way) (start_tree start_way)) (sym g) ∙ ap (λ (b : Option Length). head.Global x t b (start_tree start_way)) r.spelled.2.2 ∙ ap (head.Global x t z) k.spelled.2.2));
+      spelled = (sign fixed.Int o ∷ n ∷ (size_tokens size_way ++ (start_tokens start_way ++ sign fixed.Semi y ∷ [])), sign_mark fixed.Int l p (declared_global (stands l p) e) ∙ ap (λ (b : List Mark). sign fixed.Int o ∷ b) (second ∙ ap (λ (b : List Mark). n ∷ b) both), (a_global (record { int_at = o; name_at = offset_at l (p + 1); name = text_at l (p + 1); semi_at = y }) size_way start_way, refl, ap (λ (b : ℕ). head.Global b (text_at l (p + 1)) (size_tree size_way) (start_tree start_way)) (sym f) ∙ ap (λ (b : List ℕ). head.Global x b (size_tree size_way) (start_tree start_way)) (sym g) ∙ ap (λ (b : Option Length). head.Global x t b (start_tree start_way)) r.spelled.2.2 ∙ ap (head.Global x t z) k.spelled.2.2));
     }
 
 -- several

@@ -7,7 +7,7 @@ use Rattle.dom_parser.specs.declared.kinds.Fixed.TheVariants as fixed
 use Rattle.dom_parser.specs.declared.kinds.Kind.{Kind}
 use Rattle.dom_parser.specs.declared.kinds.Kind.TheVariants as kind
 use Rattle.dom_parser.specs.inner.AtPlace as AtPlace
-use Rattle.dom_parser.specs.Tokens.{Mark, rank_of, number_first}
+use Rattle.dom_parser.specs.Tokens.{Mark, number_first}
 use Rattle.dom_parser.specs.Grammar.{top, sign, name_mark, un_kind, Way, a_number, a_negated, a_word, a_field, an_index, a_call, in_parens, operated, level_of, More, stop, and_then, if_so, Args, no_args, some_args, MoreArgs, last_arg, next_arg, IsAt, IsAfter, AreArgs, AreMoreArgs, tokens, more_tokens, arg_tokens, more_arg_tokens}
 use Rattle.dom_parser.specs.inner.Following as item
 use Rattle.dom_parser.specs.inner.Following.{Item, more, name_rest, level, expand}

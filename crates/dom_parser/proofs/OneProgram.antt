@@ -6,8 +6,8 @@ use Rattle.dom_parser.specs.declared.kinds.Fixed.{Fixed}
 use Rattle.dom_parser.specs.declared.kinds.Fixed.TheVariants as fixed
 use Rattle.dom_parser.specs.declared.kinds.Kind.TheVariants as kind
 use Rattle.dom_parser.specs.inner.AtPlace as AtPlace
-use Rattle.dom_parser.specs.Tokens.{Mark, mark}
-use Rattle.dom_parser.specs.Grammar.{top, sign, name_mark, Way, IsAt, tokens, TargetWay, target_word, target_field, target_index, IsTarget, target_tokens, Assign, assigned, IsAssign, assign_tokens, Stmts, no_more, then_stmt, Stmt, an_assign, an_if, Body, body_block, body_assign, Else, no_else, else_block, else_stmt, AreStmts, IsStmt, IsBody, IsElse, stmts_tokens, stmt_tokens, body_tokens, else_tokens, Constant, plain, negative, constant_tokens, Value, a_constant, a_name, value_tokens, Start, no_start, bare, braced, start_tokens, Size, no_size, number_size, name_size, size_tokens, Decl, a_define, a_global, decl_tokens, Decls, no_decls, then_decl, decls_tokens, Fields, no_fields, a_field_of, field_tokens, Structure, a_struct, struct_tokens, Guard, no_guard, a_guard, IsGuard, guard_tokens, Transaction, a_transaction, IsTransaction, transaction_tokens, Transactions, no_others, another, AreTransactions, transactions_tokens, Program, program, IsProgram, program_tokens, program_tree, Spells}
+use Rattle.dom_parser.specs.Tokens.{Mark}
+use Rattle.dom_parser.specs.Grammar.{top, sign, name_mark, Way, IsAt, tokens, TargetWay, target_word, target_field, target_index, IsTarget, target_tokens, Assign, assigned, IsAssign, assign_tokens, Stmts, no_more, then_stmt, Stmt, an_assign, an_if, Body, body_block, body_assign, Else, no_else, else_block, else_stmt, AreStmts, IsStmt, IsBody, IsElse, stmts_tokens, stmt_tokens, body_tokens, else_tokens, Constant, plain, negative, constant_tokens, Value, a_constant, a_name, value_tokens, Start, no_start, bare, braced, start_tokens, Size, no_size, number_size, name_size, size_tokens, Decl, a_define, a_global, decl_tokens, Decls, no_decls, then_decl, decls_tokens, Field, fields_tokens, Structure, struct_tokens, Guard, no_guard, a_guard, IsGuard, guard_tokens, Transaction, IsTransaction, transaction_tokens, AreTransactions, transactions_tokens, Program, program, IsProgram, program_tokens, program_tree, Spells, IfMarks, GlobalMarks}
 use Rattle.dom_parser.specs.inner.Following as item
 use Rattle.dom_parser.specs.inner.Following.{Item, level}
 use Rattle.dom_parser.proofs.Traces.{Refused}
@@ -50,6 +50,16 @@ close_if p q l m e = absurd (let k = ap kind_first e in cc)
 no_else_first : (l : List Mark) (p : ℕ) (m : List Mark) → Refused item.else_part l → l ≡ sign fixed.Else p ∷ m → ⊥
 no_else_first l p m h e = absurd (let k = subst (Refused item.else_part) e h in cc)
 
+-- records are the same where their fields are
+one_if_marks : (m m' : IfMarks) → m.if_at ≡ m'.if_at → m.open_at ≡ m'.open_at → m.close_at ≡ m'.close_at → m ≡ m'
+one_if_marks m m' a b c = λ i. record { if_at = a i; open_at = b i; close_at = c i }
+
+one_global_marks : (m m' : GlobalMarks) → m.int_at ≡ m'.int_at → m.name_at ≡ m'.name_at → m.name ≡ m'.name → m.semi_at ≡ m'.semi_at → m ≡ m'
+one_global_marks m m' a b c d = λ i. record { int_at = a i; name_at = b i; name = c i; semi_at = d i }
+
+one_field : (f f' : Field) → f.int_at ≡ f'.int_at → f.name_at ≡ f'.name_at → f.name ≡ f'.name → f.semi_at ≡ f'.semi_at → f ≡ f'
+one_field f f' a b c d = λ i. record { int_at = a i; name_at = b i; name = c i; semi_at = d i }
+
 regroup : (a : Stmt) (z : Stmts) (k : ℕ) (l : List Mark) → ((stmt_tokens a ++ stmts_tokens z) ++ sign fixed.CloseBrace k ∷ []) ++ l ≡ stmt_tokens a ++ ((stmts_tokens z ++ sign fixed.CloseBrace k ∷ []) ++ l)
 regroup a z k l = append_assoc (stmt_tokens a ++ stmts_tokens z) (sign fixed.CloseBrace k ∷ []) l ∙ append_assoc (stmt_tokens a) (stmts_tokens z) (sign fixed.CloseBrace k ∷ l) ∙ ap (λ (y : List Mark). stmt_tokens a ++ y) (sym (append_assoc (stmts_tokens z) (sign fixed.CloseBrace k ∷ []) l))
 
@@ -59,11 +69,11 @@ mutual
   one_stmts no_more (then_stmt (an_assign (assigned (target_word x' n') u' v' y')) z') k k' l l' h h' e = absurd (apart_name fixed.CloseBrace x' n' k _ _ (sym e))
   one_stmts no_more (then_stmt (an_assign (assigned (target_field x' n' b' r' f') u' v' y')) z') k k' l l' h h' e = absurd (apart_name fixed.CloseBrace x' n' k _ _ (sym e))
   one_stmts no_more (then_stmt (an_assign (assigned (target_index x' n' b' w' r') u' v' y')) z') k k' l l' h h' e = absurd (apart_name fixed.CloseBrace x' n' k _ _ (sym e))
-  one_stmts no_more (then_stmt (an_if p' q' w' r' b' c') z') k k' l l' h h' e = absurd (close_if k p' _ _ e)
+  one_stmts no_more (then_stmt (an_if m' w' b' c') z') k k' l l' h h' e = absurd (close_if k m'.if_at _ _ e)
   one_stmts (then_stmt (an_assign (assigned (target_word x n) u v y)) z) no_more k k' l l' h h' e = absurd (apart_name fixed.CloseBrace x n k' _ _ e)
   one_stmts (then_stmt (an_assign (assigned (target_field x n b r f) u v y)) z) no_more k k' l l' h h' e = absurd (apart_name fixed.CloseBrace x n k' _ _ e)
   one_stmts (then_stmt (an_assign (assigned (target_index x n b w r) u v y)) z) no_more k k' l l' h h' e = absurd (apart_name fixed.CloseBrace x n k' _ _ e)
-  one_stmts (then_stmt (an_if p q w r b c) z) no_more k k' l l' h h' e = absurd (close_if k' p _ _ (sym e))
+  one_stmts (then_stmt (an_if m w b c) z) no_more k k' l l' h h' e = absurd (close_if k' m.if_at _ _ (sym e))
   one_stmts (then_stmt a z) (then_stmt a' z') k k' l l' h h' e =
       let f = one_stmt a a' ((stmts_tokens z ++ sign fixed.CloseBrace k ∷ []) ++ l) ((stmts_tokens z' ++ sign fixed.CloseBrace k' ∷ []) ++ l') h.0 h'.0 (starts_ok z k l) (starts_ok z' k' l') (sym (regroup a z k l) ∙ e ∙ regroup a' z' k' l') in
       let g = one_stmts z z' k k' l l' h.1 h'.1 f.1 in
@@ -71,18 +81,18 @@ mutual
 
   one_stmt : (a a' : Stmt) (l l' : List Mark) → IsStmt a → IsStmt a' → Refused item.else_part l → Refused item.else_part l' → stmt_tokens a ++ l ≡ stmt_tokens a' ++ l' → (a ≡ a') × (l ≡ l')
   one_stmt (an_assign a) (an_assign a') l l' h h' d d' e = let f = one_assign a a' l l' h h' e in (ap an_assign f.0, f.1)
-  one_stmt (an_assign (assigned (target_word x n) u v y)) (an_if p' q' w' r' b' c') l l' h h' d d' e = absurd (apart_name fixed.If x n p' _ _ e)
-  one_stmt (an_assign (assigned (target_field x n b r f) u v y)) (an_if p' q' w' r' b' c') l l' h h' d d' e = absurd (apart_name fixed.If x n p' _ _ e)
-  one_stmt (an_assign (assigned (target_index x n b w r) u v y)) (an_if p' q' w' r' b' c') l l' h h' d d' e = absurd (apart_name fixed.If x n p' _ _ e)
-  one_stmt (an_if p q w r b c) (an_assign (assigned (target_word x' n') u' v' y')) l l' h h' d d' e = absurd (apart_name fixed.If x' n' p _ _ (sym e))
-  one_stmt (an_if p q w r b c) (an_assign (assigned (target_field x' n' b' r' f') u' v' y')) l l' h h' d d' e = absurd (apart_name fixed.If x' n' p _ _ (sym e))
-  one_stmt (an_if p q w r b c) (an_assign (assigned (target_index x' n' b' w' r') u' v' y')) l l' h h' d d' e = absurd (apart_name fixed.If x' n' p _ _ (sym e))
-  one_stmt (an_if p q w r b c) (an_if p' q' w' r' b' c') l l' h h' d d' e =
+  one_stmt (an_assign (assigned (target_word x n) u v y)) (an_if m' w' b' c') l l' h h' d d' e = absurd (apart_name fixed.If x n m'.if_at _ _ e)
+  one_stmt (an_assign (assigned (target_field x n b r f) u v y)) (an_if m' w' b' c') l l' h h' d d' e = absurd (apart_name fixed.If x n m'.if_at _ _ e)
+  one_stmt (an_assign (assigned (target_index x n b w r) u v y)) (an_if m' w' b' c') l l' h h' d d' e = absurd (apart_name fixed.If x n m'.if_at _ _ e)
+  one_stmt (an_if m w b c) (an_assign (assigned (target_word x' n') u' v' y')) l l' h h' d d' e = absurd (apart_name fixed.If x' n' m.if_at _ _ (sym e))
+  one_stmt (an_if m w b c) (an_assign (assigned (target_field x' n' b' r' f') u' v' y')) l l' h h' d d' e = absurd (apart_name fixed.If x' n' m.if_at _ _ (sym e))
+  one_stmt (an_if m w b c) (an_assign (assigned (target_index x' n' b' w' r') u' v' y')) l l' h h' d d' e = absurd (apart_name fixed.If x' n' m.if_at _ _ (sym e))
+  one_stmt (an_if m w b c) (an_if m' w' b' c') l l' h h' d d' e =
       let u = ap others e in
-      let f = one_in fixed.CloseParen w w' r r' ((body_tokens b ++ else_tokens c) ++ l) ((body_tokens b' ++ else_tokens c') ++ l') h.0 h'.0 refl refl (sym (split_paren w r (body_tokens b ++ else_tokens c) l) ∙ ap others u ∙ split_paren w' r' (body_tokens b' ++ else_tokens c') l') in
+      let f = one_in fixed.CloseParen w w' m.close_at m'.close_at ((body_tokens b ++ else_tokens c) ++ l) ((body_tokens b' ++ else_tokens c') ++ l') h.0 h'.0 refl refl (sym (split_paren w m.close_at (body_tokens b ++ else_tokens c) l) ∙ ap others u ∙ split_paren w' m'.close_at (body_tokens b' ++ else_tokens c') l') in
       let g = one_body b b' (else_tokens c ++ l) (else_tokens c' ++ l') h.1 h'.1 (sym (append_assoc (body_tokens b) (else_tokens c) l) ∙ f.2 ∙ append_assoc (body_tokens b') (else_tokens c') l') in
       let k = one_else c c' l l' h.2 h'.2 d d' g.1 in
-      (ap (λ y. an_if y q w r b c) (ap place_first e) ∙ ap (λ y. an_if p' y w r b c) (ap place_first u) ∙ ap (λ y. an_if p' q' y r b c) f.0 ∙ ap (λ y. an_if p' q' w' y b c) f.1 ∙ ap (λ y. an_if p' q' w' r' y c) g.0 ∙ ap (an_if p' q' w' r' b') k.0, k.1)
+      (ap (λ y. an_if y w b c) (one_if_marks m m' (ap place_first e) (ap place_first u) f.1) ∙ ap (λ y. an_if m' y b c) f.0 ∙ ap (λ y. an_if m' w' y c) g.0 ∙ ap (an_if m' w' b') k.0, k.1)
 
   one_body : (b b' : Body) (l l' : List Mark) → IsBody b → IsBody b' → body_tokens b ++ l ≡ body_tokens b' ++ l' → (b ≡ b') × (l ≡ l')
   one_body (body_block p s q) (body_block p' s' q') l l' h h' e =
@@ -110,11 +120,11 @@ mutual
   one_else (else_block o i s k) (else_stmt o' (an_assign (assigned (target_word x' n') u' v' y'))) l l' h h' d d' e = absurd (apart_name fixed.OpenBrace x' n' i _ _ (sym (ap others e)))
   one_else (else_block o i s k) (else_stmt o' (an_assign (assigned (target_field x' n' b' r' f') u' v' y'))) l l' h h' d d' e = absurd (apart_name fixed.OpenBrace x' n' i _ _ (sym (ap others e)))
   one_else (else_block o i s k) (else_stmt o' (an_assign (assigned (target_index x' n' b' w' r') u' v' y'))) l l' h h' d d' e = absurd (apart_name fixed.OpenBrace x' n' i _ _ (sym (ap others e)))
-  one_else (else_block o i s k) (else_stmt o' (an_if p' q' w' r' b' c')) l l' h h' d d' e = absurd (brace_if i p' _ _ (ap others e))
+  one_else (else_block o i s k) (else_stmt o' (an_if m' w' b' c')) l l' h h' d d' e = absurd (brace_if i m'.if_at _ _ (ap others e))
   one_else (else_stmt o (an_assign (assigned (target_word x n) u v y))) (else_block o' i' s' k') l l' h h' d d' e = absurd (apart_name fixed.OpenBrace x n i' _ _ (ap others e))
   one_else (else_stmt o (an_assign (assigned (target_field x n b r f) u v y))) (else_block o' i' s' k') l l' h h' d d' e = absurd (apart_name fixed.OpenBrace x n i' _ _ (ap others e))
   one_else (else_stmt o (an_assign (assigned (target_index x n b w r) u v y))) (else_block o' i' s' k') l l' h h' d d' e = absurd (apart_name fixed.OpenBrace x n i' _ _ (ap others e))
-  one_else (else_stmt o (an_if p q w r b c)) (else_block o' i' s' k') l l' h h' d d' e = absurd (brace_if i' p _ _ (sym (ap others e)))
+  one_else (else_stmt o (an_if m w b c)) (else_block o' i' s' k') l l' h h' d d' e = absurd (brace_if i' m.if_at _ _ (sym (ap others e)))
 
 -- heads
 
@@ -183,38 +193,41 @@ one_decl : (a a' : Decl) (l l' : List Mark) → decl_tokens a ++ l ≡ decl_toke
 one_decl (a_define p q r n c) (a_define p' q' r' n' c') l l' e =
     let u = ap others e in let v = ap others u in let f = one_constant c c' l l' (ap others v) in
     (ap (λ y. a_define y q r n c) (ap place_first e) ∙ ap (λ y. a_define p' y r n c) (ap place_first u) ∙ ap (λ y. a_define p' q' y n c) (ap place_first v) ∙ ap (λ y. a_define p' q' r' y c) (ap text_first v) ∙ ap (a_define p' q' r' n') f.0, f.1)
-one_decl (a_define p q r n c) (a_global p' q' n' z' s' r') l l' e = absurd (let f = ap kind_first e in cc)
-one_decl (a_global p q n z s r) (a_define p' q' r' n' c') l l' e = absurd (let f = ap kind_first e in cc)
-one_decl (a_global p q n z s r) (a_global p' q' n' z' s' r') l l' e =
+one_decl (a_define p q r n c) (a_global m' z' s') l l' e = absurd (let f = ap kind_first e in cc)
+one_decl (a_global m z s) (a_define p' q' r' n' c') l l' e = absurd (let f = ap kind_first e in cc)
+one_decl (a_global m z s) (a_global m' z' s') l l' e =
     let u = ap others e in
-    let f = one_size z z' s s' r r' l l' (sym (append_assoc (size_tokens z) (start_tokens s ++ sign fixed.Semi r ∷ []) l) ∙ ap others u ∙ append_assoc (size_tokens z') (start_tokens s' ++ sign fixed.Semi r' ∷ []) l') in
-    let g = one_start s s' r r' l l' f.1 in
-    (ap (λ y. a_global y q n z s r) (ap place_first e) ∙ ap (λ y. a_global p' y n z s r) (ap place_first u) ∙ ap (λ y. a_global p' q' y z s r) (ap text_first u) ∙ ap (λ y. a_global p' q' n' y s r) f.0 ∙ ap (λ y. a_global p' q' n' z' y r) g.0 ∙ ap (a_global p' q' n' z' s') g.1, g.2)
+    let f = one_size z z' s s' m.semi_at m'.semi_at l l' (sym (append_assoc (size_tokens z) (start_tokens s ++ sign fixed.Semi m.semi_at ∷ []) l) ∙ ap others u ∙ append_assoc (size_tokens z') (start_tokens s' ++ sign fixed.Semi m'.semi_at ∷ []) l') in
+    let g = one_start s s' m.semi_at m'.semi_at l l' f.1 in
+    (ap (λ y. a_global y z s) (one_global_marks m m' (ap place_first e) (ap place_first u) (ap text_first u) g.1) ∙ ap (λ y. a_global m' y s) f.0 ∙ ap (a_global m' z') g.0, g.2)
 
 one_decls : (d d' : Decls) (l l' : List Mark) → Refused item.decls l → Refused item.decls l' → decls_tokens d ++ l ≡ decls_tokens d' ++ l' → (d ≡ d') × (l ≡ l')
 one_decls no_decls no_decls l l' h h' e = (refl, e)
 one_decls no_decls (then_decl (a_define p' q' r' n' c') d') l l' h h' e = absurd (let f = subst (Refused item.decls) e h in cc)
-one_decls no_decls (then_decl (a_global p' q' n' z' s' r') d') l l' h h' e = absurd (let f = subst (Refused item.decls) e h in cc)
+one_decls no_decls (then_decl (a_global m' z' s') d') l l' h h' e = absurd (let f = subst (Refused item.decls) e h in cc)
 one_decls (then_decl (a_define p q r n c) d) no_decls l l' h h' e = absurd (let f = subst (Refused item.decls) (sym e) h' in cc)
-one_decls (then_decl (a_global p q n z s r) d) no_decls l l' h h' e = absurd (let f = subst (Refused item.decls) (sym e) h' in cc)
+one_decls (then_decl (a_global m z s) d) no_decls l l' h h' e = absurd (let f = subst (Refused item.decls) (sym e) h' in cc)
 one_decls (then_decl a d) (then_decl a' d') l l' h h' e =
     let f = one_decl a a' (decls_tokens d ++ l) (decls_tokens d' ++ l') (sym (append_assoc (decl_tokens a) (decls_tokens d) l) ∙ e ∙ append_assoc (decl_tokens a') (decls_tokens d') l') in
     let g = one_decls d d' l l' h h' f.1 in
     (ap (λ y. then_decl y d) f.0 ∙ ap (then_decl a') g.0, g.1)
 
-one_fields : (f f' : Fields) (c c' : ℕ) (l l' : List Mark) → field_tokens f ++ sign fixed.CloseBrace c ∷ l ≡ field_tokens f' ++ sign fixed.CloseBrace c' ∷ l' → (f ≡ f') × (c ≡ c') × (l ≡ l')
-one_fields no_fields no_fields c c' l l' e = (refl, ap place_first e, ap others e)
-one_fields no_fields (a_field_of p' q' n' r' f') c c' l l' e = absurd (let f = ap kind_first e in cc)
-one_fields (a_field_of p q n r f) no_fields c c' l l' e = absurd (let f = ap kind_first e in cc)
-one_fields (a_field_of p q n r f) (a_field_of p' q' n' r' f') c c' l l' e =
+one_fields : (f f' : List Field) (c c' : ℕ) (l l' : List Mark) → fields_tokens f ++ sign fixed.CloseBrace c ∷ l ≡ fields_tokens f' ++ sign fixed.CloseBrace c' ∷ l' → (f ≡ f') × (c ≡ c') × (l ≡ l')
+one_fields [] [] c c' l l' e = (refl, ap place_first e, ap others e)
+one_fields [] (x' ∷ f') c c' l l' e = absurd (let f = ap kind_first e in cc)
+one_fields (x ∷ f) [] c c' l l' e = absurd (let f = ap kind_first e in cc)
+one_fields (x ∷ f) (x' ∷ f') c c' l l' e =
     let u = ap others e in let v = ap others u in let g = one_fields f f' c c' l l' (ap others v) in
-    (ap (λ y. a_field_of y q n r f) (ap place_first e) ∙ ap (λ y. a_field_of p' y n r f) (ap place_first u) ∙ ap (λ y. a_field_of p' q' y r f) (ap text_first u) ∙ ap (λ y. a_field_of p' q' n' y f) (ap place_first v) ∙ ap (a_field_of p' q' n' r') g.0, g.1, g.2)
+    (ap (λ y. y ∷ f) (one_field x x' (ap place_first e) (ap place_first u) (ap text_first u) (ap place_first v)) ∙ ap (λ y. x' ∷ y) g.0, g.1, g.2)
 
 one_struct : (z z' : Structure) (l l' : List Mark) → struct_tokens z ++ l ≡ struct_tokens z' ++ l' → (z ≡ z') × (l ≡ l')
-one_struct (a_struct p q n o i r m t f c s) (a_struct p' q' n' o' i' r' m' t' f' c' s') l l' e =
+one_struct z z' l l' e =
     let a = ap others e in let b = ap others a in let d = ap others b in let g = ap others d in let h = ap others g in
-    let k = one_fields f f' c c' (sign fixed.Semi s ∷ l) (sign fixed.Semi s' ∷ l') (sym (append_assoc (field_tokens f) (sign fixed.CloseBrace c ∷ sign fixed.Semi s ∷ []) l) ∙ ap others h ∙ append_assoc (field_tokens f') (sign fixed.CloseBrace c' ∷ sign fixed.Semi s' ∷ []) l') in
-    (ap (λ y. a_struct y q n o i r m t f c s) (ap place_first e) ∙ ap (λ y. a_struct p' y n o i r m t f c s) (ap place_first a) ∙ ap (λ y. a_struct p' q' y o i r m t f c s) (ap text_first a) ∙ ap (λ y. a_struct p' q' n' y i r m t f c s) (ap place_first b) ∙ ap (λ y. a_struct p' q' n' o' y r m t f c s) (ap place_first d) ∙ ap (λ y. a_struct p' q' n' o' i' y m t f c s) (ap place_first g) ∙ ap (λ y. a_struct p' q' n' o' i' r' y t f c s) (ap text_first g) ∙ ap (λ y. a_struct p' q' n' o' i' r' m' y f c s) (ap place_first h) ∙ ap (λ y. a_struct p' q' n' o' i' r' m' t' y c s) k.0 ∙ ap (λ y. a_struct p' q' n' o' i' r' m' t' f' y s) k.1 ∙ ap (a_struct p' q' n' o' i' r' m' t' f' c') (ap place_first k.2), ap others k.2)
+    let f = z.others in let f' = z'.others in let c = z.close_at in let c' = z'.close_at in let s = z.semi_at in let s' = z'.semi_at in
+    let k = one_fields f f' c c' (sign fixed.Semi s ∷ l) (sign fixed.Semi s' ∷ l') (sym (append_assoc (fields_tokens f) (sign fixed.CloseBrace c ∷ sign fixed.Semi s ∷ []) l) ∙ ap others h ∙ append_assoc (fields_tokens f') (sign fixed.CloseBrace c' ∷ sign fixed.Semi s' ∷ []) l') in
+    let x = one_field z.first z'.first (ap place_first d) (ap place_first g) (ap text_first g) (ap place_first h) in
+    let at = ap place_first e in let tag_at = ap place_first a in let tag = ap text_first a in let open_at = ap place_first b in let semi_at = ap place_first k.2 in
+    (λ i. record { struct_at = at i; tag_at = tag_at i; tag = tag i; open_at = open_at i; first = x i; others = k.0 i; close_at = k.1 i; semi_at = semi_at i }, ap others k.2)
 
 one_guard : (g g' : Guard) (b b' : ℕ) (l l' : List Mark) → IsGuard g → IsGuard g' → guard_tokens g ++ sign fixed.OpenBrace b ∷ l ≡ guard_tokens g' ++ sign fixed.OpenBrace b' ∷ l' → (g ≡ g') × (b ≡ b') × (l ≡ l')
 one_guard no_guard no_guard b b' l l' h h' e = (refl, ap place_first e, ap others e)
@@ -225,18 +238,21 @@ one_guard (a_guard p q w r) (a_guard p' q' w' r') b b' l l' h h' e =
     (ap (λ y. a_guard y q w r) (ap place_first e) ∙ ap (λ y. a_guard p' y w r) (ap place_first u) ∙ ap (λ y. a_guard p' q' y r) f.0 ∙ ap (a_guard p' q' w') f.1, ap place_first f.2, ap others f.2)
 
 one_transaction : (t t' : Transaction) (l l' : List Mark) → IsTransaction t → IsTransaction t' → transaction_tokens t ++ l ≡ transaction_tokens t' ++ l' → (t ≡ t') × (l ≡ l')
-one_transaction (a_transaction p q n o z r t u v c g b s k) (a_transaction p' q' n' o' z' r' t' u' v' c' g' b' s' k') l l' h h' e =
+one_transaction t t' l l' h h' e =
     let e1 = ap others e in let e2 = ap others e1 in let e3 = ap others e2 in let e4 = ap others e3 in let e5 = ap others e4 in let e6 = ap others e5 in
+    let g = t.guard in let g' = t'.guard in let b = t.begin_at in let b' = t'.begin_at in let s = t.body in let s' = t'.body in let k = t.end_at in let k' = t'.end_at in
     let f = one_guard g g' b b' ((stmts_tokens s ++ sign fixed.CloseBrace k ∷ []) ++ l) ((stmts_tokens s' ++ sign fixed.CloseBrace k' ∷ []) ++ l') h.0 h'.0 (sym (append_assoc (guard_tokens g) (sign fixed.OpenBrace b ∷ (stmts_tokens s ++ sign fixed.CloseBrace k ∷ [])) l) ∙ ap others e6 ∙ append_assoc (guard_tokens g') (sign fixed.OpenBrace b' ∷ (stmts_tokens s' ++ sign fixed.CloseBrace k' ∷ [])) l') in
     let x = one_stmts s s' k k' l l' h.1 h'.1 f.2 in
-    (ap (λ y. a_transaction y q n o z r t u v c g b s k) (ap place_first e) ∙ ap (λ y. a_transaction p' y n o z r t u v c g b s k) (ap place_first e1) ∙ ap (λ y. a_transaction p' q' y o z r t u v c g b s k) (ap text_first e1) ∙ ap (λ y. a_transaction p' q' n' y z r t u v c g b s k) (ap place_first e2) ∙ ap (λ y. a_transaction p' q' n' o' y r t u v c g b s k) (ap place_first e3) ∙ ap (λ y. a_transaction p' q' n' o' z' y t u v c g b s k) (ap place_first e4) ∙ ap (λ y. a_transaction p' q' n' o' z' r' y u v c g b s k) (ap text_first e4) ∙ ap (λ y. a_transaction p' q' n' o' z' r' t' y v c g b s k) (ap place_first e5) ∙ ap (λ y. a_transaction p' q' n' o' z' r' t' u' y c g b s k) (ap text_first e5) ∙ ap (λ y. a_transaction p' q' n' o' z' r' t' u' v' y g b s k) (ap place_first e6) ∙ ap (λ y. a_transaction p' q' n' o' z' r' t' u' v' c' y b s k) f.0 ∙ ap (λ y. a_transaction p' q' n' o' z' r' t' u' v' c' g' y s k) f.1 ∙ ap (λ y. a_transaction p' q' n' o' z' r' t' u' v' c' g' b' y k) x.0 ∙ ap (a_transaction p' q' n' o' z' r' t' u' v' c' g' b' s') x.1, x.2)
+    let void_at = ap place_first e in let name_at = ap place_first e1 in let name = ap text_first e1 in let open_at = ap place_first e2 in let struct_at = ap place_first e3 in
+    let tag_at = ap place_first e4 in let tag = ap text_first e4 in let param_at = ap place_first e5 in let param = ap text_first e5 in let close_at = ap place_first e6 in
+    (λ i. record { void_at = void_at i; name_at = name_at i; name = name i; open_at = open_at i; struct_at = struct_at i; tag_at = tag_at i; tag = tag i; param_at = param_at i; param = param i; close_at = close_at i; guard = f.0 i; begin_at = f.1 i; body = x.0 i; end_at = x.1 i }, x.2)
 
-one_transactions : (t t' : Transactions) → AreTransactions t → AreTransactions t' → transactions_tokens t ≡ transactions_tokens t' → t ≡ t'
-one_transactions no_others no_others h h' e = refl
-one_transactions no_others (another (a_transaction p' q' n' o' z' r' t' u' v' c' g' b' s' k') ts') h h' e = absurd (let f = ap kind_first e in cc)
-one_transactions (another (a_transaction p q n o z r t u v c g b s k) ts) no_others h h' e = absurd (let f = ap kind_first e in cc)
-one_transactions (another t ts) (another t' ts') h h' e =
-    let f = one_transaction t t' (transactions_tokens ts) (transactions_tokens ts') h.0 h'.0 e in ap (λ y. another y ts) f.0 ∙ ap (another t') (one_transactions ts ts' h.1 h'.1 f.1)
+one_transactions : (t t' : List Transaction) → AreTransactions t → AreTransactions t' → transactions_tokens t ≡ transactions_tokens t' → t ≡ t'
+one_transactions [] [] h h' e = refl
+one_transactions [] (t' ∷ ts') h h' e = absurd (let f = ap kind_first e in cc)
+one_transactions (t ∷ ts) [] h h' e = absurd (let f = ap kind_first e in cc)
+one_transactions (t ∷ ts) (t' ∷ ts') h h' e =
+    let f = one_transaction t t' (transactions_tokens ts) (transactions_tokens ts') h.0 h'.0 e in ap (λ y. y ∷ ts) f.0 ∙ ap (λ y. t' ∷ y) (one_transactions ts ts' h.1 h'.1 f.1)
 
 one_way_only : (w w' : Program) → IsProgram w → IsProgram w' → program_tokens w ≡ program_tokens w' → w ≡ w'
 one_way_only (program d z x t ts) (program d' z' x' t' ts') h h' e =

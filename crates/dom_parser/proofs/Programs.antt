@@ -8,7 +8,7 @@ use Rattle.dom_parser.specs.declared.faults.Fault.TheVariants.{Unexpected, TooNe
 use Rattle.dom_parser.specs.declared.kinds.Fixed.TheVariants as fixed
 use Rattle.dom_parser.specs.Tokens.{Mark, stands, offset_at, ahead}
 use Rattle.dom_parser.specs.inner.AtPlace.{rest, text_at, is_fixed, is_name}
-use Rattle.dom_parser.specs.Grammar.{sign, name_mark, no_fields, a_field_of, field_tokens, field_trees, a_struct, struct_tokens}
+use Rattle.dom_parser.specs.Grammar.{sign, name_mark, fields_tokens, fields_trees, struct_tokens, Structure}
 use Rattle.dom_parser.specs.inner.Following as item
 use Rattle.dom_parser.specs.inner.Following.{Item, term, close, ended, when, expand, may_skip, held, limit, bad, deep, fault_from}
 use Rattle.dom_parser.specs.inner.Reads.{FailsBy, Step, Reads}
@@ -72,7 +72,7 @@ fields_start l p q n e f r =
       forth = omega arith;
       within = omega arith;
       reads = λ s z. to_first l p e f s z ∙ r.reads (item.fields ∷ close fixed.CloseBrace ∷ s) (omega arith) ∙ ap (λ (k : ℕ). fault_from l k (item.fields ∷ close fixed.CloseBrace ∷ s)) four;
-      spelled = λ g tail eq. (o, r.spelled.0, q, r.spelled.1, n, g, fixed_mark fixed.OpenBrace l p e ∙ ap (λ (y : List Mark). sign fixed.OpenBrace o ∷ y) (r.spelled.2 ∙ ap (λ (y : List Mark). sign fixed.Int r.spelled.0 ∷ name_mark q n ∷ sign fixed.Semi r.spelled.1 ∷ y) (ap (rest l) four ∙ eq)), refl);
+      spelled = λ g tail eq. (o, record { int_at = r.spelled.0; name_at = q; name = n; semi_at = r.spelled.1 }, g, fixed_mark fixed.OpenBrace l p e ∙ ap (λ (y : List Mark). sign fixed.OpenBrace o ∷ y) (r.spelled.2 ∙ ap (λ (y : List Mark). sign fixed.Int r.spelled.0 ∷ name_mark q n ∷ sign fixed.Semi r.spelled.1 ∷ y) (ap (rest l) four ∙ eq)), refl);
     }
 
 fields_at : (l : List Token) (p : ℕ) (b : Bool) → is_fixed fixed.Int (stands l p) ≡ b → expand item.fields (stands l p) (ahead l p) ≡ when b (item.a_name ∷ term fixed.Semi ∷ item.fields ∷ [])
@@ -89,8 +89,8 @@ fields_next l p next q n done all m e r is =
       within = r.within;
       reads = λ s z. m.reads s z ∙ next_field l next e s z ∙ r.reads (item.fields ∷ close fixed.CloseBrace ∷ s) (omega arith);
       spelled = λ g tail eq.
-          let w = m.spelled (a_field_of r.spelled.0 q n r.spelled.1 g) tail (r.spelled.2 ∙ ap (λ (y : List Mark). sign fixed.Int r.spelled.0 ∷ name_mark q n ∷ sign fixed.Semi r.spelled.1 ∷ y) eq) in
-          (w.0, w.1, w.2, w.3, w.4, w.5, w.6, w.7 ∙ sym (append_assoc done ((q, n) ∷ []) (field_trees g)) ∙ ap (λ (y : List (ℕ × List ℕ)). y ++ field_trees g) (sym is));
+          let w = m.spelled (record { int_at = r.spelled.0; name_at = q; name = n; semi_at = r.spelled.1 } ∷ g) tail (r.spelled.2 ∙ ap (λ (y : List Mark). sign fixed.Int r.spelled.0 ∷ name_mark q n ∷ sign fixed.Semi r.spelled.1 ∷ y) eq) in
+          (w.0, w.1, w.2, w.3, w.4 ∙ sym (append_assoc done ((q, n) ∷ []) (fields_trees g)) ∙ ap (λ (y : List (ℕ × List ℕ)). y ++ fields_trees g) (sym is));
     }
 
 pub fields_fail : (l : List Token) (p next : ℕ) (done : List (ℕ × List ℕ)) (x : Fault) → FieldsSoFar l p next done → is_fixed fixed.Int (stands l next) ≡ true → FailsField l next x → FailsBy item.field_block 0 l p x
@@ -107,12 +107,12 @@ pub reads_fields : (l : List Token) (p next : ℕ) (fs : List (ℕ × List ℕ))
 reads_fields l p next fs m e c =
     let a = m.forth in
     let inside = fixed_inside fixed.CloseBrace l next c in
-    let w = m.spelled no_fields (rest l next) refl in
+    let w = m.spelled [] (rest l next) refl in
     record {
       forth = omega arith;
       within = omega arith;
       reads = λ s z. m.reads s z ∙ skips l next item.fields (close fixed.CloseBrace ∷ s) (fields_at l next false e) refl ∙ read_close fixed.CloseBrace 0 l next c (omega arith) s z;
-      spelled = (w.0, w.1, w.2, w.3, offset_at l next, w.4, w.5, w.6 ∙ ap (λ (y : List Mark). sign fixed.OpenBrace w.0 ∷ sign fixed.Int w.1 ∷ name_mark w.2 w.4 ∷ sign fixed.Semi w.3 ∷ (field_tokens w.5 ++ y)) (fixed_mark fixed.CloseBrace l next c), w.7 ∙ append-nil fs);
+      spelled = (w.0, w.1, w.2, offset_at l next, w.3 ∙ ap (λ (y : List Mark). sign fixed.OpenBrace w.0 ∷ (fields_tokens (w.1 ∷ w.2) ++ y)) (fixed_mark fixed.CloseBrace l next c), w.4 ∙ append-nil fs);
     }
 
 -- the struct
@@ -144,12 +144,12 @@ reads_struct l p q x t fs e f r c g h =
     let w = r.spelled in
     let inside = fixed_inside fixed.Semi l q c in
     let o = offset_at l p in let k = offset_at l q in let n = name_mark (offset_at l (p + 1)) (text_at l (p + 1)) in
-    let way = a_struct o (offset_at l (p + 1)) (text_at l (p + 1)) w.0 w.1 w.2 w.5 w.3 w.6 w.4 k in
+    let way : Structure = record { struct_at = o; tag_at = offset_at l (p + 1); tag = text_at l (p + 1); open_at = w.0; first = w.1; others = w.2; close_at = w.3; semi_at = k } in
     let second = mark_to n l (p + 1) (p + 1 + 1) (p + 2) (omega arith) (named_mark l (p + 1) f) in
-    let third : rest l (p + 2) ≡ sign fixed.OpenBrace w.0 ∷ sign fixed.Int w.1 ∷ name_mark w.2 w.5 ∷ sign fixed.Semi w.3 ∷ ((field_tokens w.6 ++ sign fixed.CloseBrace w.4 ∷ sign fixed.Semi k ∷ []) ++ rest l (q + 1)) = w.7 ∙ ap (λ (y : List Mark). sign fixed.OpenBrace w.0 ∷ sign fixed.Int w.1 ∷ name_mark w.2 w.5 ∷ sign fixed.Semi w.3 ∷ (field_tokens w.6 ++ sign fixed.CloseBrace w.4 ∷ y)) (fixed_mark fixed.Semi l q c) ∙ ap (λ (y : List Mark). sign fixed.OpenBrace w.0 ∷ sign fixed.Int w.1 ∷ name_mark w.2 w.5 ∷ sign fixed.Semi w.3 ∷ y) (sym (append_assoc (field_tokens w.6) (sign fixed.CloseBrace w.4 ∷ sign fixed.Semi k ∷ []) (rest l (q + 1)))) in
+    let third : rest l (p + 2) ≡ sign fixed.OpenBrace w.0 ∷ sign fixed.Int w.1.int_at ∷ name_mark w.1.name_at w.1.name ∷ sign fixed.Semi w.1.semi_at ∷ ((fields_tokens w.2 ++ sign fixed.CloseBrace w.3 ∷ sign fixed.Semi k ∷ []) ++ rest l (q + 1)) = w.4 ∙ ap (λ (y : List Mark). sign fixed.OpenBrace w.0 ∷ sign fixed.Int w.1.int_at ∷ name_mark w.1.name_at w.1.name ∷ sign fixed.Semi w.1.semi_at ∷ (fields_tokens w.2 ++ sign fixed.CloseBrace w.3 ∷ y)) (fixed_mark fixed.Semi l q c) ∙ ap (λ (y : List Mark). sign fixed.OpenBrace w.0 ∷ sign fixed.Int w.1.int_at ∷ name_mark w.1.name_at w.1.name ∷ sign fixed.Semi w.1.semi_at ∷ y) (sym (append_assoc (fields_tokens w.2) (sign fixed.CloseBrace w.3 ∷ sign fixed.Semi k ∷ []) (rest l (q + 1)))) in
     record {
       forth = omega arith;
       within = omega arith;
       reads = row_read item.structure (item.a_name ∷ item.field_block ∷ term fixed.Semi ∷ []) 0 l p (q + 1) (struct_at l p true e) (omega arith) (row_one item.a_name (item.field_block ∷ term fixed.Semi ∷ []) 0 0 l (p + 1) (p + 2) (q + 1) (omega arith) (struct_to l p f) (row_one item.field_block (term fixed.Semi ∷ []) 0 0 l (p + 2) q (q + 1) (omega arith) r.reads (row_one (term fixed.Semi) [] 0 0 l q (q + 1) (q + 1) (omega arith) (read_term fixed.Semi 0 l q c (omega arith)) (row_none 0 l (q + 1)))));
-      spelled = (struct_tokens way, fixed_mark fixed.Struct l p e ∙ ap (λ (y : List Mark). sign fixed.Struct o ∷ y) (second ∙ ap (λ (y : List Mark). n ∷ y) third), (way, refl, ap (λ (y : ℕ). head.Struct y (text_at l (p + 1)) ((w.2, w.5) ∷ field_trees w.6)) (sym g) ∙ ap (λ (y : List ℕ). head.Struct x y ((w.2, w.5) ∷ field_trees w.6)) (sym h) ∙ ap (head.Struct x t) w.8));
+      spelled = (struct_tokens way, fixed_mark fixed.Struct l p e ∙ ap (λ (y : List Mark). sign fixed.Struct o ∷ y) (second ∙ ap (λ (y : List Mark). n ∷ y) third), (way, refl, ap (λ (y : ℕ). head.Struct y (text_at l (p + 1)) ((w.1.name_at, w.1.name) ∷ fields_trees w.2)) (sym g) ∙ ap (λ (y : List ℕ). head.Struct x y ((w.1.name_at, w.1.name) ∷ fields_trees w.2)) (sym h) ∙ ap (head.Struct x t) w.5));
     }

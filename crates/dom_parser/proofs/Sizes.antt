@@ -7,7 +7,7 @@ use Rattle.dom_ast.specs.Size.{expr_nodes, exprs_nodes, ops_nodes, target_nodes,
 use Rattle.dom_words.specs.declared.operators.BinOp.{BinOp}
 use Rattle.dom_parser.specs.declared.kinds.Fixed.TheVariants as fixed
 use Rattle.dom_parser.specs.Tokens.{Mark, mark}
-use Rattle.dom_parser.specs.Grammar.{sign, Way, a_number, a_negated, a_word, a_field, an_index, a_call, in_parens, operated, level_of, More, stop, and_then, if_so, Args, no_args, some_args, MoreArgs, last_arg, next_arg, tokens, more_tokens, arg_tokens, more_arg_tokens, Tail, ops, choose, joined, and_op, tree, more_trees, arg_trees, more_arg_trees, opens, TargetWay, target_word, target_field, target_index, target_tokens, target_tree, Assign, assigned, assign_tokens, assign_tree, Stmts, no_more, then_stmt, Stmt, an_assign, an_if, Body, body_block, body_assign, Else, no_else, else_block, else_stmt, stmts_tokens, stmt_tokens, body_tokens, else_tokens, stmts_trees, stmt_tree, body_tree, else_tree, stmts_opens, stmt_opens, body_opens, else_opens, Guard, no_guard, a_guard, guard_tokens, guard_tree, guard_opens, Transaction, a_transaction, transaction_tokens, transaction_tree, transaction_opens, Transactions, no_others, another, transactions_tokens, transaction_trees, transactions_opens, decls_tokens, struct_tokens, decls_opens, struct_opens, Program, program, program_tokens, program_tree, program_opens, AreWithin, SpellsWithin}
+use Rattle.dom_parser.specs.Grammar.{sign, Way, a_number, a_negated, a_word, a_field, an_index, a_call, in_parens, operated, level_of, More, stop, and_then, if_so, Args, no_args, some_args, MoreArgs, last_arg, next_arg, tokens, more_tokens, arg_tokens, more_arg_tokens, Tail, ops, choose, joined, and_op, tree, more_trees, arg_trees, more_arg_trees, opens, TargetWay, target_word, target_field, target_index, target_tokens, target_tree, Assign, assigned, assign_tokens, assign_tree, Stmts, no_more, then_stmt, Stmt, an_assign, an_if, Body, body_block, body_assign, Else, no_else, else_block, else_stmt, stmts_tokens, stmt_tokens, body_tokens, else_tokens, stmts_trees, stmt_tree, body_tree, else_tree, stmts_opens, stmt_opens, body_opens, else_opens, Guard, no_guard, a_guard, guard_tokens, guard_tree, guard_opens, Transaction, transaction_tokens, transaction_tree, transaction_opens, transactions_tokens, transaction_trees, transactions_opens, decls_tokens, struct_tokens, decls_opens, struct_opens, Program, program, program_tokens, program_tree, program_opens, AreWithin, SpellsWithin}
 
 -- what a tail adds to the nodes of what stands before it
 abbrev tail_nodes : Tail → ℕ
@@ -70,9 +70,9 @@ mutual
 
   stmt_small : (a : Stmt) → stmt_nodes (stmt_tree a) ≤ length (stmt_tokens a)
   stmt_small (an_assign a) = assign_small a
-  stmt_small (an_if p q w r b c) =
-      let h = expr_small w in let k = body_small b in let m = else_small c in
-      let e = length-append (tokens w) (sign fixed.CloseParen r ∷ (body_tokens b ++ else_tokens c)) in let f = length-append (body_tokens b) (else_tokens c) in omega arith
+  stmt_small (an_if m w b c) =
+      let h = expr_small w in let k = body_small b in let j = else_small c in
+      let e = length-append (tokens w) (sign fixed.CloseParen m.close_at ∷ (body_tokens b ++ else_tokens c)) in let f = length-append (body_tokens b) (else_tokens c) in omega arith
 
   body_small : (b : Body) → stmts_nodes (body_tree b) ≤ length (body_tokens b)
   body_small (body_block p b q) = let h = stmts_small b in let e = closed (stmts_tokens b) (sign fixed.CloseBrace q) in omega arith
@@ -88,12 +88,12 @@ guard_small no_guard = omega arith
 guard_small (a_guard p q w r) = let h = expr_small w in let e = closed (tokens w) (sign fixed.CloseParen r) in omega arith
 
 transaction_small : (t : Transaction) → guard_nodes (transaction_tree t).guard + stmts_nodes (transaction_tree t).body ≤ length (transaction_tokens t)
-transaction_small (a_transaction p q m o z r t u v c g b w e) =
-    let h = guard_small g in let k = stmts_small w in let f = closed (stmts_tokens w) (sign fixed.CloseBrace e) in let j = length-append (guard_tokens g) (sign fixed.OpenBrace b ∷ (stmts_tokens w ++ sign fixed.CloseBrace e ∷ [])) in omega arith
+transaction_small t =
+    let h = guard_small t.guard in let k = stmts_small t.body in let f = closed (stmts_tokens t.body) (sign fixed.CloseBrace t.end_at) in let j = length-append (guard_tokens t.guard) (sign fixed.OpenBrace t.begin_at ∷ (stmts_tokens t.body ++ sign fixed.CloseBrace t.end_at ∷ [])) in omega arith
 
-transactions_small : (ts : Transactions) → transactions_nodes (transaction_trees ts) ≤ length (transactions_tokens ts)
-transactions_small no_others = omega arith
-transactions_small (another t ts) = let h = transaction_small t in let k = transactions_small ts in let e = length-append (transaction_tokens t) (transactions_tokens ts) in omega arith
+transactions_small : (ts : List Transaction) → transactions_nodes (transaction_trees ts) ≤ length (transactions_tokens ts)
+transactions_small [] = omega arith
+transactions_small (t ∷ ts) = let h = transaction_small t in let k = transactions_small ts in let e = length-append (transaction_tokens t) (transactions_tokens ts) in omega arith
 
 program_small : (w : Program) → program_nodes (program_tree w) ≤ length (program_tokens w)
 program_small (program d z e t ts) =
@@ -147,8 +147,8 @@ mutual
 
   stmt_shallow : (d n : ℕ) (x : Stmt) → n + d ≡ 64 → AreWithin (stmt_opens n x) → stmt_nested d (stmt_tree x) ≡ true
   stmt_shallow d n (an_assign (assigned g p w q)) h a = refl
-  stmt_shallow zero n (an_if p q w r b c) h a = absurd (let k = a.0 in omega arith)
-  stmt_shallow (suc d) n (an_if p q w r b c) h a =
+  stmt_shallow zero n (an_if i w b c) h a = absurd (let k = a.0 in omega arith)
+  stmt_shallow (suc d) n (an_if i w b c) h a =
       let k = parts (opens (suc (suc n)) w) (suc (suc n) ∷ (body_opens (suc n) b ++ else_opens (suc n) c)) a.1.1 in
       let m = parts (body_opens (suc n) b) (else_opens (suc n) c) k.1.1 in
       both (stmts_nested d (body_tree b)) (stmts_nested d (else_tree c)) (body_shallow d (suc n) b (omega arith) m.0) (else_shallow d (suc n) c (omega arith) m.1)
@@ -164,16 +164,18 @@ mutual
   else_shallow (suc d) n (else_block p o b q) h a = looser d (stmts_trees b) (stmts_shallow d (suc n) b (omega arith) (parts (stmts_opens (suc n) b) (suc n ∷ []) a.1.1).0)
   else_shallow d n (else_stmt p x) h a = both (stmt_nested d (stmt_tree x)) true (stmt_shallow d n x h a.1) refl
 
-transaction_shallow : (t : Transaction) → AreWithin (transaction_opens 0 t) → guarded_nested 64 (transaction_tree t).guard (transaction_tree t).body ≡ true
-transaction_shallow (a_transaction p q m o z r t u v c no_guard b w e) a =
-    looser 63 (stmts_trees w) (stmts_shallow 63 1 w (omega arith) (parts (stmts_opens 1 w) (1 ∷ []) a.1.1.1.1.1.1.1.1).0)
-transaction_shallow (a_transaction p q m o z r t u v c (a_guard x y k f) b w e) a =
-    let g = parts (guard_opens 0 (a_guard x y k f)) (1 ∷ (stmts_opens 1 w ++ 1 ∷ [])) a.1.1.1.1.1.1.1 in
+guarded_shallow : (g : Guard) (w : Stmts) → AreWithin (guard_opens 0 g ++ 1 ∷ (stmts_opens 1 w ++ 1 ∷ [])) → guarded_nested 64 (guard_tree g) (stmts_trees w) ≡ true
+guarded_shallow no_guard w a = looser 63 (stmts_trees w) (stmts_shallow 63 1 w (omega arith) (parts (stmts_opens 1 w) (1 ∷ []) a.1).0)
+guarded_shallow (a_guard x y k f) w a =
+    let g = parts (guard_opens 0 (a_guard x y k f)) (1 ∷ (stmts_opens 1 w ++ 1 ∷ [])) a in
     stmts_shallow 63 1 w (omega arith) (parts (stmts_opens 1 w) (1 ∷ []) g.1.1).0
 
-transactions_shallow : (ts : Transactions) → AreWithin (transactions_opens 0 ts) → transactions_nested 64 (transaction_trees ts) ≡ true
-transactions_shallow no_others a = refl
-transactions_shallow (another t ts) a =
+transaction_shallow : (t : Transaction) → AreWithin (transaction_opens 0 t) → guarded_nested 64 (transaction_tree t).guard (transaction_tree t).body ≡ true
+transaction_shallow t a = guarded_shallow t.guard t.body a.1.1.1.1.1.1.1
+
+transactions_shallow : (ts : List Transaction) → AreWithin (transactions_opens 0 ts) → transactions_nested 64 (transaction_trees ts) ≡ true
+transactions_shallow [] a = refl
+transactions_shallow (t ∷ ts) a =
     let k = parts (transaction_opens 0 t) (transactions_opens 0 ts) a in
     both (guarded_nested 64 (transaction_tree t).guard (transaction_tree t).body) (transactions_nested 64 (transaction_trees ts)) (transaction_shallow t k.0) (transactions_shallow ts k.1)
 

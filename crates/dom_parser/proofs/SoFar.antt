@@ -7,7 +7,7 @@ use Rattle.dom_ast.specs.Form.{ExprForm, ExprForms, StmtForm, StmtForms, Transac
 use Rattle.dom_parser.specs.declared.kinds.Fixed.TheVariants as fixed
 use Rattle.dom_parser.specs.Tokens.{Mark}
 use Rattle.dom_parser.specs.inner.AtPlace.{rest}
-use Rattle.dom_parser.specs.Grammar.{sign, name_mark, More, IsAfter, more_tokens, more_trees, Tail, and_op, Args, AreArgs, arg_tokens, arg_trees, MoreArgs, AreMoreArgs, more_arg_tokens, more_arg_trees, Stmts, AreStmts, stmts_tokens, stmts_trees, Decls, decls_tokens, decls_trees, Fields, field_tokens, field_trees, Transaction, IsTransaction, transaction_tokens, transaction_tree, Transactions, AreTransactions, transactions_tokens, transaction_trees}
+use Rattle.dom_parser.specs.Grammar.{sign, More, IsAfter, more_tokens, more_trees, Tail, and_op, Args, AreArgs, arg_tokens, arg_trees, MoreArgs, AreMoreArgs, more_arg_tokens, more_arg_trees, Stmts, AreStmts, stmts_tokens, stmts_trees, Decls, decls_tokens, decls_trees, Field, fields_tokens, fields_trees, Transaction, IsTransaction, transaction_tokens, transaction_tree, transactions_tokens, AreTransactions, transaction_trees}
 use Rattle.dom_parser.specs.inner.Following as item
 use Rattle.dom_parser.specs.inner.Following.{Item, close, level, more, more_args, name_rest, stmts, held, fault_from}
 use Rattle.dom_parser.specs.inner.Reads.{Reads, SpellsExpr}
@@ -65,11 +65,11 @@ pub record FieldsSoFar (l : List Token) (p next : ℕ) (fs : List (ℕ × List �
   pub forth : p + 4 ≤ next
   pub within : next ≤ length l
   pub reads : (s : List Item) → held s ≡ 0 → fault_from l p (item.field_block ∷ s) ≡ fault_from l next (item.fields ∷ close fixed.CloseBrace ∷ s)
-  pub spelled : (q : Fields) (tail : List Mark) → rest l next ≡ field_tokens q ++ tail → (o : ℕ) × (i : ℕ) × (r : ℕ) × (t : ℕ) × (m : List ℕ) × (f : Fields) × (rest l p ≡ sign fixed.OpenBrace o ∷ sign fixed.Int i ∷ name_mark r m ∷ sign fixed.Semi t ∷ (field_tokens f ++ tail)) × ((r, m) ∷ field_trees f ≡ fs ++ field_trees q)
+  pub spelled : (q : List Field) (tail : List Mark) → rest l next ≡ fields_tokens q ++ tail → (o : ℕ) × (f : Field) × (others : List Field) × (rest l p ≡ sign fixed.OpenBrace o ∷ (fields_tokens (f ∷ others) ++ tail)) × (fields_trees (f ∷ others) ≡ fs ++ fields_trees q)
 
 -- transactions, of which the first stands at p
 pub record TransactionsSoFar (l : List Token) (p next : ℕ) (ts : List TransactionForm) : Type 0 where
   pub forth : p < next
   pub within : next ≤ length l
   pub reads : (s : List Item) → held s ≡ 0 → fault_from l p (item.term fixed.Void ∷ (transaction_row ++ item.transactions ∷ s)) ≡ fault_from l next (item.transactions ∷ s)
-  pub spelled : (q : Transactions) (tail : List Mark) → AreTransactions q → rest l next ≡ transactions_tokens q ++ tail → (w : Transaction) × (ws : Transactions) × IsTransaction w × AreTransactions ws × (rest l p ≡ transaction_tokens w ++ (transactions_tokens ws ++ tail)) × (transaction_tree w ∷ transaction_trees ws ≡ ts ++ transaction_trees q)
+  pub spelled : (q : List Transaction) (tail : List Mark) → AreTransactions q → rest l next ≡ transactions_tokens q ++ tail → (w : Transaction) × (ws : List Transaction) × IsTransaction w × AreTransactions ws × (rest l p ≡ transaction_tokens w ++ (transactions_tokens ws ++ tail)) × (transaction_tree w ∷ transaction_trees ws ≡ ts ++ transaction_trees q)

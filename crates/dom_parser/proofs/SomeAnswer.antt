@@ -1,9 +1,8 @@
 -- Tokens spell a program within the limit, or have a first fault.
-use Rattle.std.proofs.Common.{◌≡◌, ℕ, ◌+◌, ◌⊎◌, inl, inr, Bool, true, false, List, [], ◌∷◌, map, Option, Some, None, if◌then◌else◌, nat_le, refl, sym, ap, ◌∙◌}
+use Rattle.std.proofs.Common.{◌≡◌, ℕ, ◌+◌, inl, inr, Bool, true, false, List, [], ◌∷◌, map, Option, Some, None, if◌then◌else◌, nat_le, refl, sym, ap}
 use Rattle.std.proofs.lemmas.Option.{none-some}
 use Rattle.dom_lexer.specs.declared.token.Token.{Token}
 use Rattle.dom_parser.specs.declared.faults.Fault.TheVariants as place
-use Rattle.dom_parser.specs.declared.faults.ParseFault.{ParseFault}
 use Rattle.dom_parser.specs.declared.faults.ParseFault.TheVariants as answer
 use Rattle.dom_parser.specs.declared.kinds.Kind.{Kind}
 use Rattle.dom_parser.specs.declared.kinds.Kind.TheVariants as kind

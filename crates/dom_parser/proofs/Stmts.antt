@@ -299,7 +299,7 @@ reads_if n l p q u v e ss ts b h r x y =
       forth = omega arith;
       within = y.within;
       reads = row_read item.stmt if_row n l p v (if_there l p b) (omega arith) (row_one item.condition (item.body ∷ item.else_part ∷ ended ∷ []) n (n + 1) l (p + 1) q v (omega arith) r.reads (row_one item.body (item.else_part ∷ ended ∷ []) n (n + 1) l q u v (omega arith) x.reads (row_one item.else_part (ended ∷ []) n (n + 1) l u v v (omega arith) y.reads (row_one ended [] n n l v v v (omega arith) (read_ended n l v) (row_none n l v)))));
-      spelled = (sign fixed.If o ∷ sign fixed.OpenParen c.0 ∷ (tokens way ++ shut ∷ (body_tokens body_way ++ else_tokens else_way)), all ∙ ap (λ (z : List Mark). sign fixed.If o ∷ sign fixed.OpenParen c.0 ∷ z) (sym (append_assoc (tokens way) (shut ∷ (body_tokens body_way ++ else_tokens else_way)) (rest l v))), (an_if o c.0 way c.2 body_way else_way, (c.3, x.spelled.2.1, y.spelled.2.1), refl, ap (λ (z : ExprForm). branch z (body_tree body_way) (else_tree else_way)) c.5 ∙ ap (λ (z : StmtForms). branch e z (else_tree else_way)) x.spelled.2.3 ∙ ap (λ (z : StmtForms). branch e ss z) y.spelled.2.3));
+      spelled = (sign fixed.If o ∷ sign fixed.OpenParen c.0 ∷ (tokens way ++ shut ∷ (body_tokens body_way ++ else_tokens else_way)), all ∙ ap (λ (z : List Mark). sign fixed.If o ∷ sign fixed.OpenParen c.0 ∷ z) (sym (append_assoc (tokens way) (shut ∷ (body_tokens body_way ++ else_tokens else_way)) (rest l v))), (an_if (record { if_at = o; open_at = c.0; close_at = c.2 }) way body_way else_way, (c.3, x.spelled.2.1, y.spelled.2.1), refl, ap (λ (z : ExprForm). branch z (body_tree body_way) (else_tree else_way)) c.5 ∙ ap (λ (z : StmtForms). branch e z (else_tree else_way)) x.spelled.2.3 ∙ ap (λ (z : StmtForms). branch e ss z) y.spelled.2.3));
     }
 
 -- bodies

@@ -11,7 +11,7 @@ use Rattle.dom_parser.specs.declared.faults.Fault.TheVariants.{Unexpected, TooNe
 use Rattle.dom_parser.specs.declared.kinds.Fixed.TheVariants as fixed
 use Rattle.dom_parser.specs.Tokens.{Mark, stands, offset_at, ahead}
 use Rattle.dom_parser.specs.inner.AtPlace.{rest, text_at, is_fixed, is_name}
-use Rattle.dom_parser.specs.Grammar.{sign, name_mark, decls_tokens, decls_trees, struct_tokens, struct_tree, stmts_tokens, stmts_trees, no_guard, a_guard, guard_tokens, a_transaction, transaction_tokens, transaction_tree, no_others, another, transactions_tokens, transaction_trees, program}
+use Rattle.dom_parser.specs.Grammar.{sign, name_mark, decls_tokens, decls_trees, struct_tokens, struct_tree, stmts_tokens, stmts_trees, no_guard, a_guard, guard_tokens, transaction_tokens, transaction_tree, transactions_tokens, transaction_trees, program, Transaction}
 use Rattle.dom_parser.specs.inner.Following as item
 use Rattle.dom_parser.specs.inner.Following.{problem, trace, Item, term, close, ended, when, whole, expand, may_skip, held, limit, bad, deep, fault_from}
 use Rattle.dom_parser.specs.inner.Reads.{FailsBy, Step, Reads, Passes, SpellsCondition, SpellsBlock}
@@ -133,7 +133,7 @@ reads_transaction l p q u g ss t v e r x y is =
     let middle : rest l (p + 2) ≡ sign fixed.OpenParen h.0 ∷ sign fixed.Struct h.1 ∷ name_mark (offset_at l (p + 4)) (text_at l (p + 4)) ∷ name_mark (offset_at l (p + 5)) (text_at l (p + 5)) ∷ sign fixed.CloseParen h.2 ∷ rest l (p + 7) = h.3 ∙ ap (λ (k : ℕ). sign fixed.OpenParen h.0 ∷ sign fixed.Struct h.1 ∷ name_mark (offset_at l k) (text_at l k) ∷ name_mark (offset_at l (p + 2 + 3)) (text_at l (p + 2 + 3)) ∷ sign fixed.CloseParen h.2 ∷ rest l (p + 2 + 5)) four ∙ ap (λ (k : ℕ). sign fixed.OpenParen h.0 ∷ sign fixed.Struct h.1 ∷ name_mark (offset_at l (p + 4)) (text_at l (p + 4)) ∷ name_mark (offset_at l k) (text_at l k) ∷ sign fixed.CloseParen h.2 ∷ rest l (p + 2 + 5)) five ∙ ap (λ (k : ℕ). sign fixed.OpenParen h.0 ∷ sign fixed.Struct h.1 ∷ name_mark (offset_at l (p + 4)) (text_at l (p + 4)) ∷ name_mark (offset_at l (p + 5)) (text_at l (p + 5)) ∷ sign fixed.CloseParen h.2 ∷ rest l k) seven in
     let read_block : rest l q ≡ (sign fixed.OpenBrace c.0 ∷ (stmts_tokens c.1 ++ sign fixed.CloseBrace c.2 ∷ [])) ++ rest l u = y.spelled.1 ∙ ap (λ (k : List Mark). k ++ rest l u) (sym c.4) in
     let read_rest : rest l (p + 7) ≡ (guard_tokens gw.0 ++ sign fixed.OpenBrace c.0 ∷ (stmts_tokens c.1 ++ sign fixed.CloseBrace c.2 ∷ [])) ++ rest l u = x.spelled.1 ∙ ap (λ (k : List Mark). k ++ rest l q) (sym gw.2) ∙ ap (λ (k : List Mark). guard_tokens gw.0 ++ k) read_block ∙ sym (append_assoc (guard_tokens gw.0) (sign fixed.OpenBrace c.0 ∷ (stmts_tokens c.1 ++ sign fixed.CloseBrace c.2 ∷ [])) (rest l u)) in
-    let way = a_transaction o (offset_at l (p + 1)) (text_at l (p + 1)) h.0 h.1 (offset_at l (p + 4)) (text_at l (p + 4)) (offset_at l (p + 5)) (text_at l (p + 5)) h.2 gw.0 c.0 c.1 c.2 in
+    let way : Transaction = record { void_at = o; name_at = offset_at l (p + 1); name = text_at l (p + 1); open_at = h.0; struct_at = h.1; tag_at = offset_at l (p + 4); tag = text_at l (p + 4); param_at = offset_at l (p + 5); param = text_at l (p + 5); close_at = h.2; guard = gw.0; begin_at = c.0; body = c.1; end_at = c.2 } in
     record {
       forth = omega arith;
       within = y.within;
@@ -177,7 +177,7 @@ transactions_next l p next after done all t m e r is =
       within = r.within;
       reads = λ s z. m.reads s z ∙ more_step l next e s z ∙ r.reads (item.transactions ∷ s) z;
       spelled = λ ws tail aq eq.
-          let w = m.spelled (another r.spelled.0 ws) tail (r.spelled.1, aq) (r.spelled.2 ∙ ap (λ (k : List Mark). transaction_tokens r.spelled.0 ++ k) eq ∙ sym (append_assoc (transaction_tokens r.spelled.0) (transactions_tokens ws) tail)) in
+          let w = m.spelled (r.spelled.0 ∷ ws) tail (r.spelled.1, aq) (r.spelled.2 ∙ ap (λ (k : List Mark). transaction_tokens r.spelled.0 ++ k) eq ∙ sym (append_assoc (transaction_tokens r.spelled.0) (transactions_tokens ws) tail)) in
           (w.0, w.1, w.2, w.3, w.4, w.5 ∙ ap (λ (k : TransactionForm). map transaction_form done ++ k ∷ transaction_trees ws) r.spelled.3 ∙ sym (append_assoc (map transaction_form done) (transaction_form t ∷ []) (transaction_trees ws)) ∙ ap (λ (k : List TransactionForm). k ++ transaction_trees ws) (sym pushed));
     }
 
@@ -188,7 +188,7 @@ transactions_fail l p next done Memory m e a = tt
 
 pub reads_transactions : (l : List Token) (p next : ℕ) (ts : List TransactionForm) → TransactionsSoFar l p next ts → is_fixed fixed.Void (stands l next) ≡ false → ReadsTransactions l p next ts
 reads_transactions l p next ts m e =
-    let w = m.spelled no_others (rest l next) tt refl in
+    let w = m.spelled [] (rest l next) tt refl in
     record {
       within = m.within;
       reads = m.reads [] refl ∙ skips l next item.transactions [] (more_at l next false e) refl;

@@ -15,7 +15,7 @@ use Rattle.dom_parser.specs.Faults.{unexpected_at, located_at, SpellsNone}
 use Rattle.dom_parser.specs.inner.HeadReads.{ReadsWhole, FailsWholeBy}
 use Rattle.dom_parser.specs.Tokens.{Mark, mark, stands, offset_at}
 use Rattle.dom_parser.specs.inner.AtPlace.{is_fixed}
-use Rattle.dom_parser.specs.Grammar.{top, sign, name_mark, Way, IsAt, tokens, opens, target_word, target_field, target_index, Assign, assigned, IsAssign, assign_tokens, assign_opens, Stmts, no_more, then_stmt, Stmt, an_assign, an_if, Body, body_block, body_assign, Else, no_else, else_block, else_stmt, AreStmts, IsStmt, IsBody, IsElse, stmts_tokens, stmt_tokens, body_tokens, else_tokens, stmts_opens, stmt_opens, body_opens, else_opens, Constant, plain, negative, constant_tokens, constant_opens, Value, a_constant, a_name, value_tokens, value_opens, Start, no_start, bare, braced, start_tokens, start_opens, Size, no_size, number_size, name_size, size_tokens, size_opens, Decl, a_define, a_global, decl_tokens, decl_opens, Decls, no_decls, then_decl, decls_tokens, decls_opens, Fields, no_fields, a_field_of, field_tokens, field_opens, Structure, a_struct, struct_tokens, struct_opens, Guard, no_guard, a_guard, IsGuard, guard_tokens, guard_opens, Transaction, a_transaction, IsTransaction, transaction_tokens, transaction_opens, Transactions, no_others, another, AreTransactions, transactions_tokens, transactions_opens, Program, program, IsProgram, program_tokens, program_opens, Spells, AreWithin, SpellsWithin}
+use Rattle.dom_parser.specs.Grammar.{top, sign, name_mark, Way, IsAt, tokens, opens, target_word, target_field, target_index, Assign, assigned, IsAssign, assign_tokens, assign_opens, Stmts, no_more, then_stmt, Stmt, an_assign, an_if, Body, body_block, body_assign, Else, no_else, else_block, else_stmt, AreStmts, IsStmt, IsBody, IsElse, stmts_tokens, stmt_tokens, body_tokens, else_tokens, stmts_opens, stmt_opens, body_opens, else_opens, Constant, plain, negative, constant_tokens, constant_opens, Value, a_constant, a_name, value_tokens, value_opens, Start, no_start, bare, braced, start_tokens, start_opens, Size, no_size, number_size, name_size, size_tokens, size_opens, Decl, a_define, a_global, decl_tokens, decl_opens, Decls, no_decls, then_decl, decls_tokens, decls_opens, Field, fields_tokens, fields_opens, Structure, struct_tokens, struct_opens, Guard, no_guard, a_guard, IsGuard, guard_tokens, guard_opens, Transaction, IsTransaction, transaction_tokens, transaction_opens, AreTransactions, transactions_tokens, transactions_opens, Program, program, IsProgram, program_tokens, program_opens, Spells, AreWithin, SpellsWithin}
 use Rattle.dom_parser.specs.inner.Following as item
 use Rattle.dom_parser.specs.inner.Following.{Item, term, close, ended, level, assign_row, if_row, expand, held, Trace, fine, stuck, count, trace, limit, Problem, problem, whole}
 use Rattle.dom_parser.proofs.Traces.{counted, counted_append, ends_close, in_brackets, way_traced, ended_passes, Refused, passes, goes}
@@ -57,7 +57,7 @@ starts_ok no_more q l = refl
 starts_ok (then_stmt (an_assign (assigned (target_word p n) r w z)) b) q l = refl
 starts_ok (then_stmt (an_assign (assigned (target_field p n x y f) r w z)) b) q l = refl
 starts_ok (then_stmt (an_assign (assigned (target_index p n x v y) r w z)) b) q l = refl
-starts_ok (then_stmt (an_if p x w r c e) b) q l = refl
+starts_ok (then_stmt (an_if m w c e) b) q l = refl
 
 mutual
   stmts_traced : (b : Stmts) → AreStmts b → (q : ℕ) (s : List Item) (l : List Mark) → trace (item.stmts ∷ close fixed.CloseBrace ∷ s) ((stmts_tokens b ++ sign fixed.CloseBrace q ∷ []) ++ l) ≡ counted (stmts_opens (suc (held s)) b ++ suc (held s) ∷ []) (trace s l)
@@ -71,11 +71,11 @@ mutual
 
   stmt_traced : (a : Stmt) → IsStmt a → (i : Item) (x s : List Item) → ((n : Bool) → expand i kind.Name n ≡ Some (assign_row ++ x)) → ((n : Bool) → expand i (kind.Fixed fixed.If) n ≡ Some (if_row ++ x)) → (l : List Mark) → Refused item.else_part l → trace (i ∷ s) (stmt_tokens a ++ l) ≡ counted (stmt_opens (held (x ++ s)) a) (trace (x ++ s) l)
   stmt_traced (an_assign a) h i x s e f l g = assign_traced i x s e a h l
-  stmt_traced (an_if p q w r b c) h i x s e f l g =
+  stmt_traced (an_if m w b c) h i x s e f l g =
       let n = held (x ++ s) in
       let after : List Item = item.body ∷ item.else_part ∷ ended ∷ (x ++ s) in
-      goes i (if_row ++ x) s (sign fixed.If p) (sign fixed.OpenParen q ∷ ((tokens w ++ sign fixed.CloseParen r ∷ (body_tokens b ++ else_tokens c)) ++ l)) (f _)
-      ∙ ap (λ (t : Trace). count (suc n) (count (suc (suc n)) t)) (condition_traced w h.0 r after (body_tokens b ++ else_tokens c) l ∙ ap (counted (opens (suc (suc n)) w ++ suc (suc n) ∷ [])) (ap (trace after) (append_assoc (body_tokens b) (else_tokens c) l) ∙ body_traced b h.1 (item.else_part ∷ ended ∷ (x ++ s)) (else_tokens c ++ l) ∙ ap (counted (body_opens (suc n) b)) (else_traced c h.2 (ended ∷ (x ++ s)) l g ∙ ap (counted (else_opens (suc n) c)) (ended_passes (x ++ s) l)) ∙ sym (counted_append (body_opens (suc n) b) (else_opens (suc n) c) (trace (x ++ s) l))) ∙ sym (counted_append (opens (suc (suc n)) w ++ suc (suc n) ∷ []) (body_opens (suc n) b ++ else_opens (suc n) c) (trace (x ++ s) l)) ∙ ap (λ (t : List ℕ). counted t (trace (x ++ s) l)) (append_assoc (opens (suc (suc n)) w) (suc (suc n) ∷ []) (body_opens (suc n) b ++ else_opens (suc n) c)))
+      goes i (if_row ++ x) s (sign fixed.If m.if_at) (sign fixed.OpenParen m.open_at ∷ ((tokens w ++ sign fixed.CloseParen m.close_at ∷ (body_tokens b ++ else_tokens c)) ++ l)) (f _)
+      ∙ ap (λ (t : Trace). count (suc n) (count (suc (suc n)) t)) (condition_traced w h.0 m.close_at after (body_tokens b ++ else_tokens c) l ∙ ap (counted (opens (suc (suc n)) w ++ suc (suc n) ∷ [])) (ap (trace after) (append_assoc (body_tokens b) (else_tokens c) l) ∙ body_traced b h.1 (item.else_part ∷ ended ∷ (x ++ s)) (else_tokens c ++ l) ∙ ap (counted (body_opens (suc n) b)) (else_traced c h.2 (ended ∷ (x ++ s)) l g ∙ ap (counted (else_opens (suc n) c)) (ended_passes (x ++ s) l)) ∙ sym (counted_append (body_opens (suc n) b) (else_opens (suc n) c) (trace (x ++ s) l))) ∙ sym (counted_append (opens (suc (suc n)) w ++ suc (suc n) ∷ []) (body_opens (suc n) b ++ else_opens (suc n) c) (trace (x ++ s) l)) ∙ ap (λ (t : List ℕ). counted t (trace (x ++ s) l)) (append_assoc (opens (suc (suc n)) w) (suc (suc n) ∷ []) (body_opens (suc n) b ++ else_opens (suc n) c)))
 
   body_traced : (b : Body) → IsBody b → (s : List Item) (l : List Mark) → trace (item.body ∷ s) (body_tokens b ++ l) ≡ counted (body_opens (held s) b) (trace s l)
   body_traced (body_block p b q) a s l = ap (count (suc (held s))) (stmts_traced b a q s l)
@@ -122,9 +122,9 @@ size_traced (name_size p q n x) v r s l = ap (λ (t : Trace). count (suc (held s
 
 decl_traced : (a : Decl) (s : List Item) (l : List Mark) → trace (item.decls ∷ s) (decl_tokens a ++ l) ≡ counted (decl_opens (held s) a) (trace (item.decls ∷ s) l)
 decl_traced (a_define p q r m c) s l = ap (λ (t : Trace). count (held s) (count (held s) (count (held s) t))) (constant_traced c (item.decls ∷ s) l)
-decl_traced (a_global p q m z v r) s l =
-    ap (λ (t : List Mark). count (held s) (count (held s) (trace (item.size_part ∷ item.start_part ∷ term fixed.Semi ∷ item.decls ∷ s) t))) (append_assoc (size_tokens z) (start_tokens v ++ sign fixed.Semi r ∷ []) l)
-    ∙ ap (λ (t : Trace). count (held s) (count (held s) t)) (size_traced z v r (item.decls ∷ s) l ∙ ap (counted (size_opens (held s) z)) (start_traced v r (item.decls ∷ s) l) ∙ sym (counted_append (size_opens (held s) z) (start_opens (held s) v ++ held s ∷ []) (trace (item.decls ∷ s) l)))
+decl_traced (a_global m z v) s l =
+    ap (λ (t : List Mark). count (held s) (count (held s) (trace (item.size_part ∷ item.start_part ∷ term fixed.Semi ∷ item.decls ∷ s) t))) (append_assoc (size_tokens z) (start_tokens v ++ sign fixed.Semi m.semi_at ∷ []) l)
+    ∙ ap (λ (t : Trace). count (held s) (count (held s) t)) (size_traced z v m.semi_at (item.decls ∷ s) l ∙ ap (counted (size_opens (held s) z)) (start_traced v m.semi_at (item.decls ∷ s) l) ∙ sym (counted_append (size_opens (held s) z) (start_opens (held s) v ++ held s ∷ []) (trace (item.decls ∷ s) l)))
 
 decls_traced : (d : Decls) (s : List Item) (l : List Mark) → Refused item.decls l → trace (item.decls ∷ s) (decls_tokens d ++ l) ≡ counted (decls_opens (held s) d) (trace s l)
 decls_traced no_decls s l e = passes item.decls s l refl e
@@ -134,17 +134,17 @@ decls_traced (then_decl a d) s l e =
     ∙ ap (counted (decl_opens (held s) a)) (decls_traced d s l e)
     ∙ sym (counted_append (decl_opens (held s) a) (decls_opens (held s) d) (trace s l))
 
-fields_traced : (f : Fields) (c : ℕ) (s : List Item) (l : List Mark) → trace (item.fields ∷ close fixed.CloseBrace ∷ s) (field_tokens f ++ sign fixed.CloseBrace c ∷ l) ≡ counted (field_opens (suc (held s)) f) (count (suc (held s)) (trace s l))
-fields_traced no_fields c s l = ap (count (suc (held s))) (ended_passes s l)
-fields_traced (a_field_of p q m r f) c s l = ap (λ (t : Trace). count (suc (held s)) (count (suc (held s)) (count (suc (held s)) t))) (fields_traced f c s l)
+fields_traced : (f : List Field) (c : ℕ) (s : List Item) (l : List Mark) → trace (item.fields ∷ close fixed.CloseBrace ∷ s) (fields_tokens f ++ sign fixed.CloseBrace c ∷ l) ≡ counted (fields_opens (suc (held s)) f) (count (suc (held s)) (trace s l))
+fields_traced [] c s l = ap (count (suc (held s))) (ended_passes s l)
+fields_traced (x ∷ f) c s l = ap (λ (t : Trace). count (suc (held s)) (count (suc (held s)) (count (suc (held s)) t))) (fields_traced f c s l)
 
 struct_traced : (z : Structure) (s : List Item) (l : List Mark) → trace (item.structure ∷ s) (struct_tokens z ++ l) ≡ counted (struct_opens (held s) z) (trace s l)
-struct_traced (a_struct p q x o i r m t f c k) s l =
+struct_traced z s l =
     let n = held s in
-    ap (λ (y : Trace). count n (count n (count (suc n) (count (suc n) (count (suc n) (count (suc n) y)))))) (ap (trace (item.fields ∷ close fixed.CloseBrace ∷ term fixed.Semi ∷ s)) (append_assoc (field_tokens f) (sign fixed.CloseBrace c ∷ sign fixed.Semi k ∷ []) l) ∙ fields_traced f c (term fixed.Semi ∷ s) (sign fixed.Semi k ∷ l) ∙ sym (counted_append (field_opens (suc n) f) (suc n ∷ n ∷ []) (trace s l)))
+    ap (λ (y : Trace). count n (count n (count (suc n) (count (suc n) (count (suc n) (count (suc n) y)))))) (ap (trace (item.fields ∷ close fixed.CloseBrace ∷ term fixed.Semi ∷ s)) (append_assoc (fields_tokens z.others) (sign fixed.CloseBrace z.close_at ∷ sign fixed.Semi z.semi_at ∷ []) l) ∙ fields_traced z.others z.close_at (term fixed.Semi ∷ s) (sign fixed.Semi z.semi_at ∷ l) ∙ sym (counted_append (fields_opens (suc n) z.others) (suc n ∷ n ∷ []) (trace s l)))
 
 pub struct_first : (z : Structure) (l : List Mark) → Refused item.decls (struct_tokens z ++ l)
-struct_first (a_struct p q x o i r m t f c k) l = refl
+struct_first z l = refl
 
 -- transactions
 
@@ -153,28 +153,28 @@ guard_traced no_guard a b s l = refl
 guard_traced (a_guard p q w r) a b s l = ap (λ (t : Trace). count (held s) (count (suc (held s)) t)) (in_brackets fixed.CloseParen w (way_traced top w a) r (item.block ∷ s) (sign fixed.OpenBrace b ∷ l) refl refl refl)
 
 -- from the name on
-described : (q : ℕ) (m : List ℕ) (o z r : ℕ) (t : List ℕ) (u : ℕ) (v : List ℕ) (c : ℕ) (g : Guard) (b : ℕ) (w : Stmts) (e : ℕ) → IsGuard g → AreStmts w → (s : List Item) (l : List Mark)
-    → trace (item.a_name ∷ item.header ∷ item.guard ∷ item.block ∷ s) ((name_mark q m ∷ sign fixed.OpenParen o ∷ sign fixed.Struct z ∷ name_mark r t ∷ name_mark u v ∷ sign fixed.CloseParen c ∷ (guard_tokens g ++ sign fixed.OpenBrace b ∷ (stmts_tokens w ++ sign fixed.CloseBrace e ∷ []))) ++ l)
-    ≡ counted (held s ∷ suc (held s) ∷ suc (held s) ∷ suc (held s) ∷ suc (held s) ∷ suc (held s) ∷ (guard_opens (held s) g ++ suc (held s) ∷ (stmts_opens (suc (held s)) w ++ suc (held s) ∷ []))) (trace s l)
-described q m o z r t u v c g b w e x y s l =
+described : (t : Transaction) → IsTransaction t → (s : List Item) (l : List Mark)
+    → trace (item.a_name ∷ item.header ∷ item.guard ∷ item.block ∷ s) ((name_mark t.name_at t.name ∷ sign fixed.OpenParen t.open_at ∷ sign fixed.Struct t.struct_at ∷ name_mark t.tag_at t.tag ∷ name_mark t.param_at t.param ∷ sign fixed.CloseParen t.close_at ∷ (guard_tokens t.guard ++ sign fixed.OpenBrace t.begin_at ∷ (stmts_tokens t.body ++ sign fixed.CloseBrace t.end_at ∷ []))) ++ l)
+    ≡ counted (held s ∷ suc (held s) ∷ suc (held s) ∷ suc (held s) ∷ suc (held s) ∷ suc (held s) ∷ (guard_opens (held s) t.guard ++ suc (held s) ∷ (stmts_opens (suc (held s)) t.body ++ suc (held s) ∷ []))) (trace s l)
+described t a s l =
     let n = held s in
-    let body = sign fixed.OpenBrace b ∷ (stmts_tokens w ++ sign fixed.CloseBrace e ∷ []) in
-    let counts = suc n ∷ (stmts_opens (suc n) w ++ suc n ∷ []) in
-    ap (λ (k : Trace). count n (count (suc n) (count (suc n) (count (suc n) (count (suc n) (count (suc n) k)))))) (ended_passes (item.guard ∷ item.block ∷ s) ((guard_tokens g ++ body) ++ l) ∙ ap (trace (item.guard ∷ item.block ∷ s)) (append_assoc (guard_tokens g) body l) ∙ guard_traced g x b s ((stmts_tokens w ++ sign fixed.CloseBrace e ∷ []) ++ l) ∙ ap (λ (k : Trace). counted (guard_opens n g) (count (suc n) k)) (stmts_traced w y e s l) ∙ sym (counted_append (guard_opens n g) counts (trace s l)))
+    let body = sign fixed.OpenBrace t.begin_at ∷ (stmts_tokens t.body ++ sign fixed.CloseBrace t.end_at ∷ []) in
+    let counts = suc n ∷ (stmts_opens (suc n) t.body ++ suc n ∷ []) in
+    ap (λ (k : Trace). count n (count (suc n) (count (suc n) (count (suc n) (count (suc n) (count (suc n) k)))))) (ended_passes (item.guard ∷ item.block ∷ s) ((guard_tokens t.guard ++ body) ++ l) ∙ ap (trace (item.guard ∷ item.block ∷ s)) (append_assoc (guard_tokens t.guard) body l) ∙ guard_traced t.guard a.0 t.begin_at s ((stmts_tokens t.body ++ sign fixed.CloseBrace t.end_at ∷ []) ++ l) ∙ ap (λ (k : Trace). counted (guard_opens n t.guard) (count (suc n) k)) (stmts_traced t.body a.1 t.end_at s l) ∙ sym (counted_append (guard_opens n t.guard) counts (trace s l)))
 
 first_traced : (t : Transaction) → IsTransaction t → (s : List Item) (l : List Mark) → trace (term fixed.Void ∷ item.a_name ∷ item.header ∷ item.guard ∷ item.block ∷ s) (transaction_tokens t ++ l) ≡ counted (transaction_opens (held s) t) (trace s l)
-first_traced (a_transaction p q m o z r t u v c g b w e) a s l = ap (count (held s)) (described q m o z r t u v c g b w e a.0 a.1 s l)
+first_traced t a s l = ap (count (held s)) (described t a s l)
 
 more_traced : (t : Transaction) → IsTransaction t → (s : List Item) (l : List Mark) → trace (item.transactions ∷ s) (transaction_tokens t ++ l) ≡ counted (transaction_opens (held s) t) (trace (item.transactions ∷ s) l)
-more_traced (a_transaction p q m o z r t u v c g b w e) a s l = ap (count (held s)) (described q m o z r t u v c g b w e a.0 a.1 (item.transactions ∷ s) l)
+more_traced t a s l = ap (count (held s)) (described t a (item.transactions ∷ s) l)
 
-transactions_traced : (ts : Transactions) → AreTransactions ts → trace (item.transactions ∷ []) (transactions_tokens ts) ≡ counted (transactions_opens 0 ts) fine
-transactions_traced no_others a = refl
-transactions_traced (another t ts) a =
+transactions_traced : (ts : List Transaction) → AreTransactions ts → trace (item.transactions ∷ []) (transactions_tokens ts) ≡ counted (transactions_opens 0 ts) fine
+transactions_traced [] a = refl
+transactions_traced (t ∷ ts) a =
     more_traced t a.0 [] (transactions_tokens ts) ∙ ap (counted (transaction_opens 0 t)) (transactions_traced ts a.1) ∙ sym (counted_append (transaction_opens 0 t) (transactions_opens 0 ts) fine)
 
 pub transaction_first : (t : Transaction) (l : List Mark) → Refused item.decls (transaction_tokens t ++ l)
-transaction_first (a_transaction p q m o z r t u v c g b w e) l = refl
+transaction_first t l = refl
 
 pub program_traced : (w : Program) → IsProgram w → trace whole (program_tokens w) ≡ counted (program_opens w) fine
 program_traced (program d z e t ts) a =

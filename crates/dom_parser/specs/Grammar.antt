@@ -1,8 +1,9 @@
--- The grammar. For each rule there is a type of the ways to spell it, with a constructor for each of its alternatives. A
--- constructor has the tokens from left to right: of each its offset, and then the name, the number or the operator that it
--- has, if it has one; in `and_then` alone the operator stands before its offset. Of a way there are the tokens that it
+-- The grammar. For each rule there is a type of the ways to spell it, with a constructor for each of its alternatives, or a
+-- record where a rule has one alternative and many tokens. A constructor has the tokens from left to right: of each its
+-- offset, and then the name, the number or the operator that it has, if it has one; in `and_then` alone the operator stands
+-- before its offset, and in `an_if` and `a_global` a record of the marks stands first. Of a way there are the tokens that it
 -- spells, the tree that they stand for, and, for each token, the number of open constructs.
-use Rattle.std.specs.Prelude.{◌≡◌, ℕ, zero, suc, ◌-◌, ◌%◌, ◌^◌, ◌≤◌, List, [], ◌∷◌, ◌++◌, map, Option, Some, None}
+use Rattle.std.specs.Prelude.{◌≡◌, ℕ, zero, suc, ◌-◌, ◌%◌, ◌^◌, ◌≤◌, List, [], ◌∷◌, ◌++◌, map, flat_map, Option, Some, None}
 use Rattle.dom_words.specs.declared.operators.BinOp.{BinOp}
 use Rattle.dom_words.specs.declared.operators.BinOp.TheVariants as bin
 use Rattle.dom_words.specs.declared.operators.UnOp.{UnOp}
@@ -254,6 +255,12 @@ assign_tree (assigned g p w q) = assign (first_place g) (target_tree g) (tree w)
 abbrev pub assign_opens : ℕ → Assign → List ℕ
 assign_opens n (assigned g p w q) = target_opens n g ++ n ∷ (opens n w ++ n ∷ [])
 
+-- where the tokens of an `if` before its branches stand: the word and the round brackets
+pub record IfMarks : Type 0 where
+  pub if_at : ℕ
+  pub open_at : ℕ
+  pub close_at : ℕ
+
 -- Statement = Assign | "if" "(" Expr ")" Body [ "else" ElseBody ], Body = Block | Assign, ElseBody = Block | Statement,
 -- Block = "{" { Statement } "}"
 mutual
@@ -263,7 +270,7 @@ mutual
 
   pub data Stmt : Type 0 where
     an_assign : Assign → Stmt
-    an_if : ℕ → ℕ → Way → ℕ → Body → Else → Stmt
+    an_if : IfMarks → Way → Body → Else → Stmt
 
   pub data Body : Type 0 where
     body_block : ℕ → Stmts → ℕ → Body
@@ -281,7 +288,7 @@ abbrev mutual
 
   pub IsStmt : Stmt → Type 0
   IsStmt (an_assign a) = IsAssign a
-  IsStmt (an_if p q w r b e) = IsAt top w × IsBody b × IsElse e
+  IsStmt (an_if m w b e) = IsAt top w × IsBody b × IsElse e
 
   pub IsBody : Body → Type 0
   IsBody (body_block p s q) = AreStmts s
@@ -299,7 +306,7 @@ abbrev mutual
 
   pub stmt_tokens : Stmt → List Mark
   stmt_tokens (an_assign a) = assign_tokens a
-  stmt_tokens (an_if p q w r b e) = sign fixed.If p ∷ sign fixed.OpenParen q ∷ (tokens w ++ sign fixed.CloseParen r ∷ (body_tokens b ++ else_tokens e))
+  stmt_tokens (an_if m w b e) = sign fixed.If m.if_at ∷ sign fixed.OpenParen m.open_at ∷ (tokens w ++ sign fixed.CloseParen m.close_at ∷ (body_tokens b ++ else_tokens e))
 
   pub body_tokens : Body → List Mark
   body_tokens (body_block p s q) = sign fixed.OpenBrace p ∷ (stmts_tokens s ++ sign fixed.CloseBrace q ∷ [])
@@ -317,7 +324,7 @@ abbrev mutual
 
   pub stmt_tree : Stmt → StmtForm
   stmt_tree (an_assign a) = assign_tree a
-  stmt_tree (an_if p q w r b e) = branch (tree w) (body_tree b) (else_tree e)
+  stmt_tree (an_if m w b e) = branch (tree w) (body_tree b) (else_tree e)
 
   pub body_tree : Body → StmtForms
   body_tree (body_block p s q) = stmts_trees s
@@ -336,7 +343,7 @@ abbrev mutual
 
   pub stmt_opens : ℕ → Stmt → List ℕ
   stmt_opens n (an_assign a) = assign_opens n a
-  stmt_opens n (an_if p q w r b e) =
+  stmt_opens n (an_if m w b e) =
       suc n ∷ suc (suc n) ∷ (opens (suc (suc n)) w ++ suc (suc n) ∷ (body_opens (suc n) b ++ else_opens (suc n) e))
 
   pub body_opens : ℕ → Body → List ℕ
@@ -424,22 +431,29 @@ size_opens n no_size = []
 size_opens n (number_size p q w r) = suc n ∷ suc n ∷ suc n ∷ []
 size_opens n (name_size p q m r) = suc n ∷ suc n ∷ suc n ∷ []
 
+-- of a global: the offset of `int`, the name with its offset, and the offset of `;`
+pub record GlobalMarks : Type 0 where
+  pub int_at : ℕ
+  pub name_at : ℕ
+  pub name : List ℕ
+  pub semi_at : ℕ
+
 -- Define = "#" "define" Name Constant, and Global = "int" Name [ "[" Length "]" ] [ "=" Init ] ";"
 pub data Decl : Type 0 where
   a_define : ℕ → ℕ → ℕ → List ℕ → Constant → Decl
-  a_global : ℕ → ℕ → List ℕ → Size → Start → ℕ → Decl
+  a_global : GlobalMarks → Size → Start → Decl
 
 abbrev pub decl_tokens : Decl → List Mark
 decl_tokens (a_define p q r n c) = sign fixed.Hash p ∷ sign fixed.Define q ∷ name_mark r n ∷ constant_tokens c
-decl_tokens (a_global p q n z s r) = sign fixed.Int p ∷ name_mark q n ∷ (size_tokens z ++ (start_tokens s ++ sign fixed.Semi r ∷ []))
+decl_tokens (a_global m z s) = sign fixed.Int m.int_at ∷ name_mark m.name_at m.name ∷ (size_tokens z ++ (start_tokens s ++ sign fixed.Semi m.semi_at ∷ []))
 
 abbrev pub decl_tree : Decl → Head
 decl_tree (a_define p q r n c) = head.Define r n (constant_word c)
-decl_tree (a_global p q n z s r) = head.Global q n (size_tree z) (start_tree s)
+decl_tree (a_global m z s) = head.Global m.name_at m.name (size_tree z) (start_tree s)
 
 abbrev pub decl_opens : ℕ → Decl → List ℕ
 decl_opens n (a_define p q r m c) = n ∷ n ∷ n ∷ constant_opens n c
-decl_opens n (a_global p q m z s r) = n ∷ n ∷ (size_opens n z ++ (start_opens n s ++ n ∷ []))
+decl_opens n (a_global m z s) = n ∷ n ∷ (size_opens n z ++ (start_opens n s ++ n ∷ []))
 
 -- { Define | Global }
 pub data Decls : Type 0 where
@@ -458,39 +472,52 @@ abbrev pub decls_opens : ℕ → Decls → List ℕ
 decls_opens n no_decls = []
 decls_opens n (then_decl a d) = decl_opens n a ++ decls_opens n d
 
--- { "int" Name ";" }
-pub data Fields : Type 0 where
-  no_fields : Fields
-  a_field_of : ℕ → ℕ → List ℕ → ℕ → Fields → Fields
+-- Field = "int" Name ";"
+pub record Field : Type 0 where
+  pub int_at : ℕ
+  pub name_at : ℕ
+  pub name : List ℕ
+  pub semi_at : ℕ
 
-abbrev pub field_tokens : Fields → List Mark
-field_tokens no_fields = []
-field_tokens (a_field_of p q n r f) = sign fixed.Int p ∷ name_mark q n ∷ sign fixed.Semi r ∷ field_tokens f
+abbrev pub field_tokens : Field → List Mark
+field_tokens f = sign fixed.Int f.int_at ∷ name_mark f.name_at f.name ∷ sign fixed.Semi f.semi_at ∷ []
 
-abbrev pub field_trees : Fields → List (ℕ × List ℕ)
-field_trees no_fields = []
-field_trees (a_field_of p q n r f) = (q, n) ∷ field_trees f
+abbrev pub field_tree : Field → ℕ × List ℕ
+field_tree f = (f.name_at, f.name)
 
-abbrev pub field_opens : ℕ → Fields → List ℕ
-field_opens n no_fields = []
-field_opens n (a_field_of p q m r f) = n ∷ n ∷ n ∷ field_opens n f
+abbrev pub field_opens : ℕ → Field → List ℕ
+field_opens n f = n ∷ n ∷ n ∷ []
 
--- Struct = "struct" Name "{" "int" Name ";" { "int" Name ";" } "}" ";"
--- The arguments in order: the offset of `struct`; the name with its offset before it; the offsets of `{` and of the first
--- `int`; the first field's name with its offset before it; the offset of its `;`; the other fields; the offsets of `}` and
--- `;`.
-pub data Structure : Type 0 where
-  a_struct : ℕ → ℕ → List ℕ → ℕ → ℕ → ℕ → List ℕ → ℕ → Fields → ℕ → ℕ → Structure
+-- { Field }
+abbrev pub fields_tokens : List Field → List Mark
+fields_tokens fs = flat_map field_tokens fs
+
+abbrev pub fields_trees : List Field → List (ℕ × List ℕ)
+fields_trees fs = map field_tree fs
+
+abbrev pub fields_opens : ℕ → List Field → List ℕ
+fields_opens n fs = flat_map (field_opens n) fs
+
+-- Struct = "struct" Name "{" Field { Field } "}" ";"
+pub record Structure : Type 0 where
+  pub struct_at : ℕ
+  pub tag_at : ℕ
+  pub tag : List ℕ
+  pub open_at : ℕ
+  pub first : Field
+  pub others : List Field
+  pub close_at : ℕ
+  pub semi_at : ℕ
 
 abbrev pub struct_tokens : Structure → List Mark
-struct_tokens (a_struct p q n o i r m t f c s) =
-    sign fixed.Struct p ∷ name_mark q n ∷ sign fixed.OpenBrace o ∷ sign fixed.Int i ∷ name_mark r m ∷ sign fixed.Semi t ∷ (field_tokens f ++ sign fixed.CloseBrace c ∷ sign fixed.Semi s ∷ [])
+struct_tokens z =
+    sign fixed.Struct z.struct_at ∷ name_mark z.tag_at z.tag ∷ sign fixed.OpenBrace z.open_at ∷ (fields_tokens (z.first ∷ z.others) ++ sign fixed.CloseBrace z.close_at ∷ sign fixed.Semi z.semi_at ∷ [])
 
 abbrev pub struct_tree : Structure → Head
-struct_tree (a_struct p q n o i r m t f c s) = head.Struct q n ((r, m) ∷ field_trees f)
+struct_tree z = head.Struct z.tag_at z.tag (fields_trees (z.first ∷ z.others))
 
 abbrev pub struct_opens : ℕ → Structure → List ℕ
-struct_opens n (a_struct p q x o i r m t f c s) = n ∷ n ∷ suc n ∷ suc n ∷ suc n ∷ suc n ∷ (field_opens (suc n) f ++ suc n ∷ n ∷ [])
+struct_opens n z = n ∷ n ∷ suc n ∷ (fields_opens (suc n) (z.first ∷ z.others) ++ suc n ∷ n ∷ [])
 
 -- [ "if" "(" Expr ")" ]
 pub data Guard : Type 0 where
@@ -515,50 +542,55 @@ guard_opens n no_guard = []
 guard_opens n (a_guard p q w r) = n ∷ suc n ∷ (opens (suc n) w ++ suc n ∷ [])
 
 -- Transaction = "void" Name "(" "struct" Name Name ")" [ "if" "(" Expr ")" ] Block
--- The arguments in order: the offset of `void`; the name with its offset before it; the offsets of `(` and `struct`; the
--- struct's name and the parameter's, each with its offset before it; the offset of `)`; the guard; the offset of `{`; the
--- statements; the offset of `}`.
-pub data Transaction : Type 0 where
-  a_transaction : ℕ → ℕ → List ℕ → ℕ → ℕ → ℕ → List ℕ → ℕ → List ℕ → ℕ → Guard → ℕ → Stmts → ℕ → Transaction
+pub record Transaction : Type 0 where
+  pub void_at : ℕ
+  pub name_at : ℕ
+  pub name : List ℕ
+  pub open_at : ℕ
+  pub struct_at : ℕ
+  pub tag_at : ℕ
+  pub tag : List ℕ
+  pub param_at : ℕ
+  pub param : List ℕ
+  pub close_at : ℕ
+  pub guard : Guard
+  pub begin_at : ℕ
+  pub body : Stmts
+  pub end_at : ℕ
 
 abbrev pub IsTransaction : Transaction → Type 0
-IsTransaction (a_transaction p q n o z r t u v c g b s e) = IsGuard g × AreStmts s
+IsTransaction t = IsGuard t.guard × AreStmts t.body
 
 abbrev pub transaction_tokens : Transaction → List Mark
-transaction_tokens (a_transaction p q n o z r t u v c g b s e) =
-    sign fixed.Void p ∷ name_mark q n ∷ sign fixed.OpenParen o ∷ sign fixed.Struct z ∷ name_mark r t ∷ name_mark u v ∷ sign fixed.CloseParen c ∷ (guard_tokens g ++ sign fixed.OpenBrace b ∷ (stmts_tokens s ++ sign fixed.CloseBrace e ∷ []))
+transaction_tokens t =
+    sign fixed.Void t.void_at ∷ name_mark t.name_at t.name ∷ sign fixed.OpenParen t.open_at ∷ sign fixed.Struct t.struct_at ∷ name_mark t.tag_at t.tag ∷ name_mark t.param_at t.param ∷ sign fixed.CloseParen t.close_at
+    ∷ (guard_tokens t.guard ++ sign fixed.OpenBrace t.begin_at ∷ (stmts_tokens t.body ++ sign fixed.CloseBrace t.end_at ∷ []))
 
 abbrev pub transaction_tree : Transaction → TransactionForm
-transaction_tree (a_transaction p q n o z r t u v c g b s e) =
-    record { tag_at = r; tag = t; param_at = u; param = v; guard = guard_tree g; body = stmts_trees s }
+transaction_tree t =
+    record { tag_at = t.tag_at; tag = t.tag; param_at = t.param_at; param = t.param; guard = guard_tree t.guard; body = stmts_trees t.body }
 
 abbrev pub transaction_opens : ℕ → Transaction → List ℕ
-transaction_opens n (a_transaction p q m o z r t u v c g b s e) =
-    n ∷ n ∷ suc n ∷ suc n ∷ suc n ∷ suc n ∷ suc n ∷ (guard_opens n g ++ suc n ∷ (stmts_opens (suc n) s ++ suc n ∷ []))
+transaction_opens n t =
+    n ∷ n ∷ suc n ∷ suc n ∷ suc n ∷ suc n ∷ suc n ∷ (guard_opens n t.guard ++ suc n ∷ (stmts_opens (suc n) t.body ++ suc n ∷ []))
 
-pub data Transactions : Type 0 where
-  no_others : Transactions
-  another : Transaction → Transactions → Transactions
+-- { Transaction }
+abbrev pub AreTransactions : List Transaction → Type 0
+AreTransactions [] = Unit {0}
+AreTransactions (t ∷ ts) = IsTransaction t × AreTransactions ts
 
-abbrev pub AreTransactions : Transactions → Type 0
-AreTransactions no_others = Unit {0}
-AreTransactions (another t ts) = IsTransaction t × AreTransactions ts
+abbrev pub transactions_tokens : List Transaction → List Mark
+transactions_tokens ts = flat_map transaction_tokens ts
 
-abbrev pub transactions_tokens : Transactions → List Mark
-transactions_tokens no_others = []
-transactions_tokens (another t ts) = transaction_tokens t ++ transactions_tokens ts
+abbrev pub transaction_trees : List Transaction → List TransactionForm
+transaction_trees ts = map transaction_tree ts
 
-abbrev pub transaction_trees : Transactions → List TransactionForm
-transaction_trees no_others = []
-transaction_trees (another t ts) = transaction_tree t ∷ transaction_trees ts
-
-abbrev pub transactions_opens : ℕ → Transactions → List ℕ
-transactions_opens n no_others = []
-transactions_opens n (another t ts) = transaction_opens n t ++ transactions_opens n ts
+abbrev pub transactions_opens : ℕ → List Transaction → List ℕ
+transactions_opens n ts = flat_map (transaction_opens n) ts
 
 -- Program = { Define | Global } Struct { Define | Global } Transaction { Transaction }
 pub data Program : Type 0 where
-  program : Decls → Structure → Decls → Transaction → Transactions → Program
+  program : Decls → Structure → Decls → Transaction → List Transaction → Program
 
 abbrev pub IsProgram : Program → Type 0
 IsProgram (program d s e t ts) = IsTransaction t × AreTransactions ts

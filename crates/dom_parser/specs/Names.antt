@@ -1,5 +1,5 @@
 -- What is known of the names in a program that tokens spell.
-use Rattle.std.specs.Prelude.{◌≡◌, ◌≤◌, ℕ, true, List, length}
+use Rattle.std.specs.Prelude.{◌≡◌, ◌≤◌, true, List, length}
 use Rattle.std.specs.List.{list_all, sum_by}
 use Rattle.dom_words.specs.Spelling.{is_name}
 use Rattle.dom_lexer.specs.Words.{words_of}

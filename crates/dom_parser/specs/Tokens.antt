@@ -1,11 +1,9 @@
 -- What tokens are to the grammar.
-use Rattle.std.specs.Prelude.{ℕ, ◌+◌, Bool, true, false, List, [], ◌∷◌, map, drop, Option, Some, None, if◌then◌else◌, slice_get, nat_eq, codes}
+use Rattle.std.specs.Prelude.{ℕ, ◌+◌, Bool, true, false, List, [], ◌∷◌, Option, Some, None, if◌then◌else◌, slice_get, codes}
 use Rattle.dom_words.specs.Names.{has_name, is_same}
 use Rattle.dom_words.specs.Spelling.{forbidden_words}
 use Rattle.dom_words.specs.declared.operators.BinOp.{BinOp}
 use Rattle.dom_words.specs.declared.operators.BinOp.TheVariants as bin
-use Rattle.dom_words.specs.declared.operators.UnOp.{UnOp}
-use Rattle.dom_words.specs.declared.operators.UnOp.TheVariants as un
 use Rattle.dom_lexer.specs.declared.token.Sym.{Sym}
 use Rattle.dom_lexer.specs.declared.token.Sym.TheVariants as sym
 use Rattle.dom_lexer.specs.declared.token.Token.{Token}

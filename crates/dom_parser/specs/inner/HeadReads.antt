@@ -10,7 +10,7 @@ use Rattle.dom_parser.specs.declared.faults.Fault.TheVariants.{Unexpected, TooNe
 use Rattle.dom_parser.specs.declared.kinds.Fixed.TheVariants as fixed
 use Rattle.dom_parser.specs.Tokens.{Mark, offset_at}
 use Rattle.dom_parser.specs.inner.AtPlace.{rest, text_at}
-use Rattle.dom_parser.specs.Grammar.{Spells, sign, name_mark, Constant, constant_tokens, constant_word, Value, value_tokens, value_tree, Start, start_tokens, start_tree, Size, size_tokens, size_tree, Decl, decl_tokens, decl_tree, Decls, decls_tokens, decls_trees, Fields, field_tokens, field_trees, Structure, struct_tokens, struct_tree, Guard, IsGuard, guard_tokens, guard_tree, Transaction, IsTransaction, transaction_tokens, transaction_tree, Transactions, AreTransactions, transactions_tokens, transaction_trees}
+use Rattle.dom_parser.specs.Grammar.{Spells, sign, name_mark, Constant, constant_tokens, constant_word, Value, value_tokens, value_tree, Start, start_tokens, start_tree, Size, size_tokens, size_tree, Decl, decl_tokens, decl_tree, Decls, decls_tokens, decls_trees, Field, fields_tokens, fields_trees, Structure, struct_tokens, struct_tree, Guard, IsGuard, guard_tokens, guard_tree, Transaction, IsTransaction, transaction_tokens, transaction_tree, transactions_tokens, AreTransactions, transaction_trees}
 use Rattle.dom_parser.specs.inner.Following as item
 use Rattle.dom_parser.specs.inner.Following.{Item, close, whole, Problem, bad, deep, held, limit, fault_from}
 use Rattle.dom_parser.specs.inner.Reads.{FailsBy, Step}
@@ -74,7 +74,7 @@ pub record ReadsFields (l : List Token) (p q : ℕ) (fs : List (ℕ × List ℕ)
   pub forth : p + 5 ≤ q
   pub within : q ≤ length l
   pub reads : Step item.field_block 0 l p q
-  pub spelled : (o : ℕ) × (i : ℕ) × (r : ℕ) × (t : ℕ) × (c : ℕ) × (m : List ℕ) × (f : Fields) × (rest l p ≡ sign fixed.OpenBrace o ∷ sign fixed.Int i ∷ name_mark r m ∷ sign fixed.Semi t ∷ (field_tokens f ++ sign fixed.CloseBrace c ∷ rest l q)) × ((r, m) ∷ field_trees f ≡ fs)
+  pub spelled : (o : ℕ) × (f : Field) × (others : List Field) × (c : ℕ) × (rest l p ≡ sign fixed.OpenBrace o ∷ (fields_tokens (f ∷ others) ++ sign fixed.CloseBrace c ∷ rest l q)) × (fields_trees (f ∷ others) ≡ fs)
 
 abbrev pub SpellsStruct : Head → List Mark → Type 0
 SpellsStruct h ts = (way : Structure) × (struct_tokens way ≡ ts) × (struct_tree way ≡ h)
@@ -115,7 +115,7 @@ pub record ReadsTransaction (l : List Token) (p q : ℕ) (t : TransactionForm) :
 pub record ReadsTransactions (l : List Token) (p q : ℕ) (ts : List TransactionForm) : Type 0 where
   pub within : q ≤ length l
   pub reads : fault_from l p (item.term fixed.Void ∷ (transaction_row ++ item.transactions ∷ [])) ≡ fault_from l q []
-  pub spelled : (w : Transaction) × (ws : Transactions) × IsTransaction w × AreTransactions ws × (rest l p ≡ transaction_tokens w ++ (transactions_tokens ws ++ rest l q)) × (transaction_tree w ∷ transaction_trees ws ≡ ts)
+  pub spelled : (w : Transaction) × (ws : List Transaction) × IsTransaction w × AreTransactions ws × (rest l p ≡ transaction_tokens w ++ (transactions_tokens ws ++ rest l q)) × (transaction_tree w ∷ transaction_trees ws ≡ ts)
 
 -- the first problem of the whole
 pub record FailsWhole (r : List Item) (l : List Token) (p : ℕ) (f : Problem) : Type 0 where

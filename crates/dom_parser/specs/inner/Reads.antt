@@ -1,20 +1,18 @@
 -- What the parser's functions read, and where they fail. Only proofs and contracts of private functions cite this.
-use Rattle.std.specs.Prelude.{◌≡◌, ℕ, ◌+◌, ◌-◌, ◌%◌, ◌^◌, ◌<◌, ◌≤◌, if◌then◌else◌, List, [], ◌∷◌, ◌++◌, Option, Some, None, length}
+use Rattle.std.specs.Prelude.{◌≡◌, ℕ, ◌+◌, ◌<◌, ◌≤◌, if◌then◌else◌, List, [], ◌∷◌, ◌++◌, Option, Some, None, length}
 use Rattle.dom_words.specs.Number.{negated}
-use Rattle.dom_words.specs.declared.operators.BinOp.{BinOp}
 use Rattle.dom_lexer.specs.declared.token.Token.{Token}
 use Rattle.dom_ast.specs.Form.{ExprForm, ExprForms, TargetForm, StmtForm, StmtForms}
 use Rattle.dom_parser.specs.declared.faults.Fault.{Fault}
 use Rattle.dom_parser.specs.declared.faults.Fault.TheVariants.{Unexpected, TooNested, Memory}
 use Rattle.dom_words.specs.declared.operators.UnOp.{UnOp}
-use Rattle.dom_ast.specs.Form.{expr, stmt}
 use Rattle.dom_parser.specs.declared.kinds.Fixed.{Fixed}
 use Rattle.dom_parser.specs.declared.kinds.Fixed.TheVariants as fixed
 use Rattle.dom_parser.specs.declared.kinds.Kind.{Kind}
 use Rattle.dom_parser.specs.Tokens.{Mark, stands, offset_at, ahead}
 use Rattle.dom_parser.specs.inner.AtPlace.{rest, number_of}
-use Rattle.dom_parser.specs.Grammar.{top, sign, Way, IsAt, tokens, tree, More, IsAfter, more_tokens, more_trees, Tail, and_op, Args, AreArgs, arg_tokens, arg_trees, MoreArgs, AreMoreArgs, more_arg_tokens, more_arg_trees, TargetWay, IsTarget, target_tokens, target_tree, first_place, Assign, IsAssign, assign_tokens, assign_tree, Stmts, AreStmts, stmts_tokens, stmts_trees, Stmt, IsStmt, stmt_tokens, stmt_tree, Body, IsBody, body_tokens, body_tree, Else, IsElse, else_tokens, else_tree}
-use Rattle.dom_parser.specs.inner.Following.{Item, level, more, close, name_rest, more_args, target_rest, stmts, expand, is_neg, Problem, bad, deep, held, fault_from}
+use Rattle.dom_parser.specs.Grammar.{top, sign, Way, IsAt, tokens, tree, Args, AreArgs, arg_tokens, arg_trees, TargetWay, IsTarget, target_tokens, target_tree, first_place, Assign, IsAssign, assign_tokens, assign_tree, Stmts, AreStmts, stmts_tokens, stmts_trees, Stmt, IsStmt, stmt_tokens, stmt_tree, Body, IsBody, body_tokens, body_tree, Else, IsElse, else_tokens, else_tree}
+use Rattle.dom_parser.specs.inner.Following.{Item, level, close, name_rest, target_rest, expand, is_neg, Problem, bad, deep, held, fault_from}
 
 -- where n constructs are open, the item has a fault
 pub record Fails (i : Item) (n : ℕ) (l : List Token) (p : ℕ) (f : Problem) : Type 0 where
