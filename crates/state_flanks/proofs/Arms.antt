@@ -1,45 +1,54 @@
--- The read flanks of an expression with parts.
-use Rattle.std.proofs.Common.{◌≡◌, ℕ, Bool, List, [], ◌∷◌, ◌++◌, map, refl, sym, ap, append_assoc, ◌∙◌}
+-- The mentions of an expression, of those that are left of a list, and of a step, in two parts.
+use Rattle.std.proofs.Common.{◌≡◌, ℕ, ◌+◌, ◌<◌, List, ◌∷◌, ◌++◌, drop, length, refl, sym, ap, ◌∙◌}
 use Rattle.std.specs.Prelude.{Box}
 use Rattle.std.specs.declared.alloc.Global.{Global}
+use Rattle.std.proofs.Math.ListN.{get_or}
+use Rattle.std.proofs.lemmas.List.{drop_more}
 use Rattle.dom_words.specs.declared.operators.BinOp.{BinOp}
-use Rattle.dom_ast.specs.declared.flanks.FlankItem.{FlankItem}
 use Rattle.dom_ast.specs.declared.part.Part.{Part}
 use Rattle.dom_ast.specs.declared.part.Part.TheViews.{Chain, Cond, rolls-Chain, rolls-Cond}
 use Rattle.dom_ast.specs.declared.part.Part.TheFolds.{fold-roll-Part}
 use Rattle.dom_ast.specs.declared.part.Part.TheOpen.{Part-F}
-use Rattle.dom_ast.specs.Flanks.{FlankForm, flank_form}
-use Rattle.dom_ast.specs.Resolved.{PartForm, chain, choice, form, op_forms, part_step}
-use Rattle.state_flanks.specs.Tables.{ops_reads, part_marks, part_reads}
+use Rattle.dom_ast.specs.declared.steps.Step.{Step}
+use Rattle.dom_ast.specs.Kept.{goal_mentions, ops_mentions, part_mentions, parts_mentions}
+use Rattle.dom_ast.specs.Resolved.{PartForm, form, forms, op_forms, part_step}
+use Rattle.dom_ast.specs.Straight.{step_form}
+use Rattle.state_flanks.specs.WithFlanks.{step_mentions}
+use Rattle.state_flanks.proofs.Marks.{Parts}
 
-as_chain : (x : Part) (b : Box Part Global) (rest more : List (BinOp × Part)) (e : Part) → x ≡ Chain b rest → e ≡ b.value → more ≡ rest → form x ≡ chain (form e) (op_forms more)
-as_chain x b rest more e is here same_rest =
-    ap form (is ∙ sym (rolls-Chain b rest))
-    ∙ fold-roll-Part PartForm part_step (Part-F.Chain b rest)
-    ∙ ap (λ y. chain (form y) (op_forms rest)) (sym here)
-    ∙ ap (λ y. chain (form e) (op_forms y)) (sym same_rest)
+-- of a chain: its first operand, and the others
+pub chain_mentions : (x : Part) (b : Box Part Global) (rest more : List (BinOp × Part)) (e : Part) → x ≡ Chain b rest → e ≡ b.value → more ≡ rest → Parts (part_mentions (form x)) (part_mentions (form e)) (ops_mentions (op_forms more))
+chain_mentions x b rest more e is here same_rest = record {
+  are =
+      ap (λ y. part_mentions (form y)) (is ∙ sym (rolls-Chain b rest))
+      ∙ ap part_mentions (fold-roll-Part PartForm part_step (Part-F.Chain b rest))
+      ∙ ap (λ y. part_mentions (form y) ++ ops_mentions (op_forms rest)) (sym here)
+      ∙ ap (λ y. part_mentions (form e) ++ ops_mentions (op_forms y)) (sym same_rest);
+}
 
-as_choice : (x : Part) (a b c : Box Part Global) (d e f : Part) → x ≡ Cond a b c → d ≡ a.value → e ≡ b.value → f ≡ c.value → form x ≡ choice (form d) (form e) (form f)
-as_choice x a b c d e f is p q r =
-    ap form (is ∙ sym (rolls-Cond a b c))
-    ∙ fold-roll-Part PartForm part_step (Part-F.Cond a b c)
-    ∙ ap (λ y. choice (form y) (form b.value) (form c.value)) (sym p)
-    ∙ ap (λ y. choice (form d) (form y) (form c.value)) (sym q)
-    ∙ ap (λ y. choice (form d) (form e) (form y)) (sym r)
+-- of a conditional: its test, and its two sides; and of these
+pub choice_mentions : (x : Part) (a b c : Box Part Global) (d e f : Part) → x ≡ Cond a b c → d ≡ a.value → e ≡ b.value → f ≡ c.value → Parts (part_mentions (form x)) (part_mentions (form d)) (part_mentions (form e) ++ part_mentions (form f)) × Parts (part_mentions (form e) ++ part_mentions (form f)) (part_mentions (form e)) (part_mentions (form f))
+choice_mentions x a b c d e f is p q r = (
+  record {
+    are =
+        ap (λ y. part_mentions (form y)) (is ∙ sym (rolls-Cond a b c))
+        ∙ ap part_mentions (fold-roll-Part PartForm part_step (Part-F.Cond a b c))
+        ∙ ap (λ y. part_mentions (form y) ++ (part_mentions (form b.value) ++ part_mentions (form c.value))) (sym p)
+        ∙ ap (λ y. part_mentions (form d) ++ (part_mentions (form y) ++ part_mentions (form c.value))) (sym q)
+        ∙ ap (λ y. part_mentions (form d) ++ (part_mentions (form e) ++ part_mentions (form y))) (sym r);
+  },
+  record { are = refl },
+)
 
-two : (before now after : List FlankItem) (xs ys : List FlankForm) → map flank_form now ≡ map flank_form before ++ xs → map flank_form after ≡ map flank_form now ++ ys → map flank_form after ≡ map flank_form before ++ (xs ++ ys)
-two before now after xs ys h k =
-    k ∙ ap (λ items. items ++ ys) h ∙ append_assoc (map flank_form before) xs ys
+-- of what is left from number i on: the first, and the others
+pub parts_more : (xs : List Part) (i : ℕ) (x d : Part) → i < length xs → x ≡ get_or xs i d → Parts (parts_mentions (forms (drop i xs))) (part_mentions (form x)) (parts_mentions (forms (drop (i + 1) xs)))
+parts_more xs i x d less is =
+    record { are = ap (λ ys. parts_mentions (forms ys)) (drop_more xs i d less ∙ ap (λ y. y ∷ drop (i + 1) xs) (sym is)) }
 
-pub chain_reads : (x : Part) (b : Box Part Global) (rest more : List (BinOp × Part)) (e : Part) (before now after : List FlankItem) (start table : List Bool) → x ≡ Chain b rest → e ≡ b.value → more ≡ rest → map flank_form now ≡ map flank_form before ++ part_reads (form e) start → table ≡ part_marks (form e) start → map flank_form after ≡ map flank_form now ++ ops_reads (op_forms more) table → map flank_form after ≡ map flank_form before ++ part_reads (form x) start
-chain_reads x b rest more e before now after start table is here same_rest h t k =
-    two before now after (part_reads (form e) start) (ops_reads (op_forms more) table) h k
-    ∙ ap (λ t. map flank_form before ++ (part_reads (form e) start ++ ops_reads (op_forms more) t)) t
-    ∙ ap (λ p. map flank_form before ++ part_reads p start) (sym (as_chain x b rest more e is here same_rest))
+pub operands_more : (xs : List (BinOp × Part)) (i : ℕ) (x d : BinOp × Part) → i < length xs → x ≡ get_or xs i d → Parts (ops_mentions (op_forms (drop i xs))) (part_mentions (form x.1)) (ops_mentions (op_forms (drop (i + 1) xs)))
+operands_more xs i x d less is =
+    record { are = ap (λ ys. ops_mentions (op_forms ys)) (drop_more xs i d less ∙ ap (λ y. y ∷ drop (i + 1) xs) (sym is)) }
 
-pub choice_reads : (x : Part) (a b c : Box Part Global) (d e f : Part) (before tested now after : List FlankItem) (start table later : List Bool) → x ≡ Cond a b c → d ≡ a.value → e ≡ b.value → f ≡ c.value → map flank_form tested ≡ map flank_form before ++ part_reads (form d) start → table ≡ part_marks (form d) start → map flank_form now ≡ map flank_form tested ++ part_reads (form e) table → later ≡ part_marks (form e) table → map flank_form after ≡ map flank_form now ++ part_reads (form f) later → map flank_form after ≡ map flank_form before ++ part_reads (form x) start
-choice_reads x a b c d e f before tested now after start table later is p q r h t k u l =
-    two before tested after (part_reads (form d) start) (part_reads (form e) table ++ part_reads (form f) later) h (two tested now after (part_reads (form e) table) (part_reads (form f) later) k l)
-    ∙ ap (λ y. map flank_form before ++ (part_reads (form d) start ++ (part_reads (form e) table ++ part_reads (form f) y))) u
-    ∙ ap (λ y. map flank_form before ++ (part_reads (form d) start ++ (part_reads (form e) y ++ part_reads (form f) (part_marks (form e) y)))) t
-    ∙ ap (λ y. map flank_form before ++ part_reads y start) (sym (as_choice x a b c d e f is p q r))
+-- of a step: its value, and its target
+pub step_parts : (s : Step) → Parts (step_mentions (step_form s)) (part_mentions (form s.value)) (goal_mentions s.target)
+step_parts s = record { are = refl }

@@ -1,20 +1,21 @@
 -- Each array is read once, before all that mentions it, and written once, at the index at which it was read.
-use Rattle.std.proofs.Common.{◌≡◌, ◌≢◌, ℕ, ◌+◌, ◌<◌, ◌≤◌, Bool, true, false, not, ◌&&◌, ◌||◌, nat_eq, nat_lt, List, [], ◌∷◌, ◌++◌, map, length, refl, sym, ap, append_assoc, ◌∙◌, subst, arith, if◌then◌else◌}
+use Rattle.std.proofs.Common.{◌≡◌, ◌≢◌, ℕ, ◌+◌, ◌≤◌, Bool, true, false, not, ◌&&◌, ◌||◌, nat_eq, List, [], ◌∷◌, ◌++◌, map, refl, sym, ap, append_assoc, ◌∙◌, subst, arith, if◌then◌else◌}
 use Rattle.std.specs.Prelude.{Option, Some, None}
-use Rattle.std.specs.List.{list_all, list_any}
+use Rattle.std.specs.List.{list_all}
 use Rattle.std.specs.Option.{option_or}
 use Rattle.std.proofs.lemmas.Bool.{false≢true, eq-eqb, ne_eqb}
 use Rattle.std.proofs.lemmas.List.{append-nil}
+use Rattle.dom_words.specs.Order.{is_read, is_read_at, is_written}
 use Rattle.dom_words.specs.declared.array.Array.{Array}
 use Rattle.dom_ast.specs.declared.part.Goal.{Goal}
 use Rattle.dom_ast.specs.declared.part.Goal.TheVariants as goal
 use Rattle.dom_ast.specs.declared.part.Place.{Place}
 use Rattle.dom_ast.specs.declared.part.Place.TheVariants as place
-use Rattle.dom_ast.specs.Flanks.{FlankForm, are_flanked, flank_within, flanks_within, is_read, is_read_at, is_written, read, set, write}
-use Rattle.dom_ast.specs.Kept.{Mention, Ranges, are_within, goal_mentions, goal_within, have_one_index, is_same_place, mention, mentions_in, part_mentions, part_within, place_within, visit_within}
+use Rattle.dom_ast.specs.Flanks.{FlankForm, are_flanked, flank_within, flanks_within, read, set, write}
+use Rattle.dom_ast.specs.Kept.{Mention, Ranges, are_within, goal_mentions, goal_within, have_one_index, is_same_place, mention, mentions_in, part_mentions, part_within, visit_within}
 use Rattle.dom_ast.specs.Straight.{StepForm, step_visit}
 use Rattle.state_flanks.specs.WithFlanks.{goal_index, is_mentioned, read_flank, read_flanks, step_mentions, target_index, with_flanks, with_reads, write_flank, write_flanks}
-use Rattle.state_flanks.proofs.Follows.{all_before, is_false}
+use Rattle.state_flanks.proofs.Follows.{all_before}
 use Rattle.state_flanks.proofs.Mentions.{AllAt, Equal, same, other, equal, are_in_range, are_mentioned_after, at_first, at_parts, first_index, is_in_range, mentioned_after, mentioned_before, mentioned_now, mentioned_other, step_in_range, steps_mentions}
 use Rattle.state_flanks.proofs.Tests.{all_weaker, both, false_not, join, join_parts, or_left, or_right}
 
@@ -27,15 +28,15 @@ record Listed (index : ℕ → Place) (before reads : List Mention) : Type 0 whe
   reads_are : (a : ℕ) → is_read reads a ≡ is_mentioned before a
   at : AllAt index reads
 
-read_at : (index : ℕ → Place) (reads : List Mention) (a : ℕ) → AllAt index reads → is_read reads a ≡ true → is_read_at reads a (index a) ≡ true
+read_at : (index : ℕ → Place) (reads : List Mention) (a : ℕ) → AllAt index reads → is_read reads a ≡ true → is_read_at is_same_place reads a (index a) ≡ true
 read_at index [] a at there = absurd (false≢true there)
 read_at index (m ∷ reads) a at there = by_number (equal m.array a) (read_at index reads a at.1)
   where
-    by_number : Equal m.array a → (is_read reads a ≡ true → is_read_at reads a (index a) ≡ true) → ((nat_eq m.array a && is_same_place m.index (index a)) || is_read_at reads a (index a)) ≡ true
+    by_number : Equal m.array a → (is_read reads a ≡ true → is_read_at is_same_place reads a (index a) ≡ true) → ((nat_eq m.array a && is_same_place m.index (index a)) || is_read_at is_same_place reads a (index a)) ≡ true
     by_number (same q t) rest =
-        or_left (nat_eq m.array a && is_same_place m.index (index a)) (is_read_at reads a (index a)) (join (nat_eq m.array a) (is_same_place m.index (index a)) t (ap (λ i. is_same_place i (index a)) (at.0 ∙ ap index q) ∙ is_same_place-refl (index a)))
+        or_left (nat_eq m.array a && is_same_place m.index (index a)) (is_read_at is_same_place reads a (index a)) (join (nat_eq m.array a) (is_same_place m.index (index a)) t (ap (λ i. is_same_place i (index a)) (at.0 ∙ ap index q) ∙ is_same_place-refl (index a)))
     by_number (other q t) rest =
-        or_right (nat_eq m.array a && is_same_place m.index (index a)) (is_read_at reads a (index a)) (rest (ap (λ b. b || is_read reads a) (sym t) ∙ there))
+        or_right (nat_eq m.array a && is_same_place m.index (index a)) (is_read_at is_same_place reads a (index a)) (rest (ap (λ b. b || is_read reads a) (sym t) ∙ there))
 
 module _ (index : ℕ → Place) where
   listed_known : (before reads : List Mention) (m : Mention) → is_mentioned before m.array ≡ true → Listed index before reads → Listed index (before ++ m ∷ []) reads
@@ -77,7 +78,7 @@ module _ (index : ℕ → Place) where
       let items = with_reads (before ++ step_mentions step) ss ++ rest in
       subst (λ items. are_flanked reads writes items ≡ true) (sym (append_assoc (read_flanks before (step_mentions step)) (set step ∷ with_reads (before ++ step_mentions step) ss) rest)) (reads_flanked before (step_mentions step) reads writes (set step ∷ items) each.0 s (λ later l. join (list_all (λ m. is_read later m.array) (step_mentions step)) (are_flanked later writes items) (all_weaker (λ m. is_mentioned (before ++ step_mentions step) m.array) (λ m. is_read later m.array) (λ m there. l.reads_are m.array ∙ there) (step_mentions step) (are_mentioned_after before (step_mentions step))) (steps_flanked (before ++ step_mentions step) ss later writes rest each.1 l next)))
 
-  writes_flanked : (a : ℕ) (xs : List Array) (ss : List StepForm) (reads : List Mention) (writes : List ℕ) → ((b : ℕ) (i : Place) → target_index b ss ≡ Some i → is_read_at reads b i ≡ true) → ((b : ℕ) → a ≤ b → is_written writes b ≡ false) → are_flanked reads writes (write_flanks a xs ss) ≡ true
+  writes_flanked : (a : ℕ) (xs : List Array) (ss : List StepForm) (reads : List Mention) (writes : List ℕ) → ((b : ℕ) (i : Place) → target_index b ss ≡ Some i → is_read_at is_same_place reads b i ≡ true) → ((b : ℕ) → a ≤ b → is_written writes b ≡ false) → are_flanked reads writes (write_flanks a xs ss) ≡ true
   writes_flanked a [] ss reads writes read_there free = refl
   writes_flanked a (x ∷ xs) ss reads writes read_there free =
       by_target (target_index a ss) refl (λ writes free. writes_flanked (a + 1) xs ss reads writes read_there free)
@@ -91,7 +92,8 @@ module _ (index : ℕ → Place) where
       by_target None is flank = flank writes (λ b le. free b (omega arith))
       by_target (Some i) is flank =
           let rest = write_flanks (a + 1) xs ss in
-          join (is_read_at reads a i) (not (is_written writes a) && are_flanked reads (a ∷ writes) rest) (read_there a i is) (join (not (is_written writes a)) (are_flanked reads (a ∷ writes) rest) (false_not (is_written writes a) (free a (omega arith))) (flank (a ∷ writes) free_after))
+          let stands = join (is_read_at is_same_place reads a i) (not (is_written writes a)) (read_there a i is) (false_not (is_written writes a) (free a (omega arith))) in
+          join (is_read_at is_same_place reads a i && not (is_written writes a)) (are_flanked reads (a ∷ writes) rest) stands (flank (a ∷ writes) free_after)
 
   -- a target's array is mentioned, at its index
   record Target (ms : List Mention) (b : ℕ) (i : Place) : Type 0 where
@@ -138,7 +140,7 @@ pub flanks_hold : (xs : List Array) (ss : List StepForm) → have_one_index (men
 flanks_hold xs ss one =
     let index = first_index (steps_mentions ss) in
     let at = at_first (steps_mentions ss) one in
-    steps_flanked index [] ss [] [] (write_flanks 0 xs ss) at (record { reads_are = λ a. refl; at = tt }) (λ later l. writes_flanked index 0 xs ss later [] (λ b i is. let t = step_target index ss b i is at in subst (λ j. is_read_at later b j ≡ true) (sym t.own) (read_at index later b l.at (l.reads_are b ∙ ap (λ ms. is_mentioned ms b) (all_before_is ss []) ∙ t.there))) (λ b le. refl))
+    steps_flanked index [] ss [] [] (write_flanks 0 xs ss) at (record { reads_are = λ a. refl; at = tt }) (λ later l. writes_flanked index 0 xs ss later [] (λ b i is. let t = step_target index ss b i is at in subst (λ j. is_read_at is_same_place later b j ≡ true) (sym t.own) (read_at index later b l.at (l.reads_are b ∙ ap (λ ms. is_mentioned ms b) (all_before_is ss []) ∙ t.there))) (λ b le. refl))
 
 -- the numbers in flanks are in range
 module _ (r : Ranges) where

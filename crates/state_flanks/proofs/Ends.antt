@@ -1,7 +1,6 @@
 -- Write flanks put back what steps have written.
-use Rattle.std.proofs.Common.{◌≡◌, ◌≢◌, ℕ, zero, suc, ◌+◌, ◌<◌, ◌≤◌, Bool, true, false, ◌&&◌, ◌||◌, nat_eq, nat_le, List, [], ◌∷◌, ◌++◌, map, length, refl, sym, ap, ◌∙◌, subst, arith, if◌then◌else◌, length-set}
-use Rattle.std.specs.Prelude.{Option, Some, None, fold, slice_index_or, slice_set}
-use Rattle.std.specs.List.{list_all}
+use Rattle.std.proofs.Common.{◌≡◌, ◌≢◌, ℕ, zero, suc, ◌+◌, ◌<◌, ◌≤◌, Bool, true, false, ◌||◌, nat_eq, nat_le, List, [], ◌∷◌, ◌++◌, map, length, refl, sym, ap, ◌∙◌, subst, arith, if◌then◌else◌, length-set}
+use Rattle.std.specs.Prelude.{Option, Some, None, slice_index_or, slice_set}
 use Rattle.std.specs.Option.{is_some, option_or}
 use Rattle.std.proofs.lemmas.Bool.{false≢true, leb-true}
 use Rattle.std.proofs.lemmas.List.{ext_get_or, get_or-set_other, get_or-set_same, length-map}
@@ -11,11 +10,11 @@ use Rattle.dom_words.specs.declared.array.Array.{Array}
 use Rattle.dom_ast.specs.declared.part.Goal.{Goal}
 use Rattle.dom_ast.specs.declared.part.Goal.TheVariants as goal
 use Rattle.dom_ast.specs.declared.part.Place.{Place}
-use Rattle.dom_ast.specs.Flanks.{FlankEnv, FlankForm, all_flanked, flank_entering, flank_outcome_of, flanked, flanked_outcome, write}
+use Rattle.dom_ast.specs.Flanks.{FlankEnv, FlankForm, all_flanked, flank_entering, flank_outcome_of, flanked, flanked_outcome}
 use Rattle.dom_ast.specs.Kept.{Mention, are_within, have_one_index, keep_indexes, mentions_in}
 use Rattle.dom_ast.specs.Meaning.{Env, entering, outcome_of}
 use Rattle.dom_ast.specs.Straight.{StepForm, all_stepped, step_visit, straight_outcome, straight_ranges}
-use Rattle.state_flanks.specs.WithFlanks.{goal_index, is_mentioned, target_index, with_flanks, with_reads, write_flank, write_flanks}
+use Rattle.state_flanks.specs.WithFlanks.{goal_index, target_index, with_flanks, with_reads, write_flank, write_flanks}
 use Rattle.state_flanks.proofs.Follows.{Follows, all_before, all_seen, length_at, rewritten, seen, steps_follow}
 use Rattle.state_flanks.proofs.Mentions.{Equal, same, other, equal, at_first, first_index, steps_mentions}
 use Rattle.state_flanks.proofs.Tests.{both}

@@ -1,25 +1,24 @@
 -- Steps between flanks do what the steps do: the index that a read flank finds is the index at each later access.
-use Rattle.std.proofs.Common.{◌≡◌, ◌≢◌, ℕ, zero, suc, ◌+◌, ◌%◌, ◌<◌, ◌≤◌, Bool, true, false, not, ◌&&◌, ◌||◌, nat_eq, nat_lt, List, [], ◌∷◌, ◌++◌, map, length, refl, sym, ap, append_assoc, ◌∙◌, subst, arith, if◌then◌else◌, length-set}
-use Rattle.std.specs.Prelude.{fold, slice_index, slice_index_or, slice_set, Option, Some, None}
-use Rattle.std.specs.List.{list_all}
+use Rattle.std.proofs.Common.{◌≡◌, ◌≢◌, ℕ, zero, suc, ◌%◌, ◌<◌, ◌≤◌, Bool, true, false, not, ◌||◌, nat_eq, nat_lt, List, [], ◌∷◌, ◌++◌, map, length, refl, sym, ap, append_assoc, ◌∙◌, subst, arith, if◌then◌else◌, length-set}
+use Rattle.std.specs.Prelude.{slice_index, slice_index_or, slice_set, Some}
 use Rattle.std.proofs.Math.Seq.{map-set_same}
 use Rattle.std.proofs.lemmas.Bool.{false≢true, eq-eqb, ne_eqb, ltb-true}
 use Rattle.std.proofs.lemmas.List.{append-nil, get_or-set_other, get_or-set_same, length-map, set-set}
 use Rattle.std.proofs.lemmas.List.Sums.{fold-append}
 use Rattle.dom_words.specs.Operators.{bin_word, chosen, un_word}
-use Rattle.dom_words.specs.State.{Hash, array_of, element_of, fetched, stored}
+use Rattle.dom_words.specs.State.{Hash, array_of, element_of, fetched}
 use Rattle.dom_ast.specs.declared.part.Goal.{Goal}
 use Rattle.dom_ast.specs.declared.part.Goal.TheVariants as goal
 use Rattle.dom_ast.specs.declared.part.Place.{Place}
 use Rattle.dom_ast.specs.declared.part.Place.TheVariants as place
-use Rattle.dom_ast.specs.Flanks.{FlankEnv, FlankForm, all_flanked, flank_assigned, flank_names, flanked, read, set, write}
-use Rattle.dom_ast.specs.Kept.{Mention, Ranges, are_within, changes_none, goal_mentions, goal_within, is_no_index, is_same_place, keep_indexes, mention, ops_mentions, part_mentions, part_within, parts_mentions, visit_within}
+use Rattle.dom_ast.specs.Flanks.{FlankEnv, FlankForm, all_flanked, flank_assigned, flank_names, flanked, read, set}
+use Rattle.dom_ast.specs.Kept.{Mention, Ranges, are_within, changes_none, goal_mentions, is_same_place, keep_indexes, mention, ops_mentions, part_mentions, parts_mentions, visit_within}
 use Rattle.dom_ast.specs.Meaning.{Env, assigned, folded, names_in, place_word, put, value, value_in, values}
 use Rattle.dom_ast.specs.Resolved.{PartForm, number, field, state, fresh, made, call, un, chain, choice, PartForms, no_parts, part, OpForms, no_ops, op}
 use Rattle.dom_ast.specs.Straight.{StepForm, all_stepped, step_visit, stepped}
 use Rattle.state_flanks.specs.WithFlanks.{is_mentioned, read_flank, read_flanks, step_mentions, with_reads}
 use Rattle.state_flanks.proofs.Mentions.{AllAt, Equal, same, other, equal, are_below, are_mentioned, are_mentioned_after, at_join, at_parts, mentioned_after, mentioned_before, mentioned_now, mentioned_other, no_index_at, step_below, steps_mentions}
-use Rattle.state_flanks.proofs.Tests.{both, both_parts, not_true, or_false, or_left, or_right}
+use Rattle.state_flanks.proofs.Tests.{both, both_parts, not_true, or_false, or_left}
 
 put_same : (k w : ℕ) (f : ℕ → ℕ) → put k w f k ≡ w
 put_same k w f = ap (λ (b : Bool). if b then w else f k) (eq-eqb k k refl)

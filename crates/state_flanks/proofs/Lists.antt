@@ -1,21 +1,20 @@
 -- The tables give the flanks of the definition.
-use Rattle.std.proofs.Common.{◌≡◌, ◌≢◌, ℕ, zero, suc, ◌+◌, ◌<◌, Bool, true, false, ◌&&◌, nat_eq, nat_lt, List, [], ◌∷◌, ◌++◌, map, length, replicate, refl, sym, ap, append_assoc, ◌∙◌, subst, arith, if◌then◌else◌, length-set}
-use Rattle.std.specs.Prelude.{Option, Some, None, fold, slice_index_or, slice_set}
+use Rattle.std.proofs.Common.{◌≡◌, ℕ, suc, ◌+◌, ◌<◌, Bool, true, false, nat_eq, nat_lt, List, [], ◌∷◌, ◌++◌, map, length, replicate, refl, sym, ap, append_assoc, ◌∙◌, subst, arith, if◌then◌else◌, length-set}
+use Rattle.std.specs.Prelude.{Option, Some, None, slice_index_or, slice_set}
 use Rattle.std.specs.Option.{option_or}
-use Rattle.std.proofs.lemmas.Bool.{eq-eqb, ltb-true}
+use Rattle.std.proofs.lemmas.Bool.{ltb-true}
 use Rattle.std.proofs.lemmas.List.{append-nil, get_or-replicate, get_or-set_other, get_or-set_same, length-replicate}
 use Rattle.dom_words.specs.declared.array.Array.{Array}
 use Rattle.dom_ast.specs.declared.part.Goal.{Goal}
 use Rattle.dom_ast.specs.declared.part.Goal.TheVariants as goal
 use Rattle.dom_ast.specs.declared.part.Place.{Place}
-use Rattle.dom_ast.specs.Flanks.{FlankForm, read, set, write}
-use Rattle.dom_ast.specs.Kept.{Mention, Ranges, are_within, goal_mentions, mention, ops_mentions, part_mentions, parts_mentions, visit_within}
-use Rattle.dom_ast.specs.Resolved.{PartForm, number, field, state, fresh, made, call, un, chain, choice, PartForms, no_parts, part, OpForms, no_ops, op}
+use Rattle.dom_ast.specs.Flanks.{read, set}
+use Rattle.dom_ast.specs.Kept.{Mention, Ranges, are_within, visit_within}
 use Rattle.dom_ast.specs.Straight.{StepForm, step_visit}
-use Rattle.state_flanks.specs.Tables.{goal_marks, goal_reads, is_marked, marked, new_read, new_writes, noted, ops_marks, ops_reads, part_marks, part_reads, parts_marks, parts_reads, step_marks, step_reads, steps_noted, steps_reads}
+use Rattle.state_flanks.specs.inner.Tables.{is_marked, marked, marks, new_writes, noted, reads, steps_noted, steps_reads}
 use Rattle.state_flanks.specs.WithFlanks.{goal_index, is_mentioned, read_flank, read_flanks, step_mentions, target_index, with_reads, write_flank, write_flanks}
 use Rattle.state_flanks.proofs.Mentions.{Equal, same, other, equal, are_below, mentioned_now, mentioned_other, step_below}
-use Rattle.state_flanks.proofs.Tests.{both, both_parts}
+use Rattle.state_flanks.proofs.Tests.{both}
 
 -- the table of n arrays says which are mentioned
 record IsTable (n : ℕ) (before : List Mention) (table : List Bool) : Type 0 where
@@ -41,90 +40,30 @@ mark_table n before m table lt s = by_test (is_marked table m) refl
     by_test false e =
         record { size = length-set table m.array true ∙ s.size; marks = λ a below. marks_new a (equal m.array a) below }
 
-read_flanks-append : (before ms ns : List Mention) → read_flanks before (ms ++ ns) ≡ read_flanks before ms ++ read_flanks (before ++ ms) ns
-read_flanks-append before [] ns = ap (λ b. read_flanks b ns) (sym (append-nil before))
-read_flanks-append before (m ∷ ms) ns =
-    ap (λ items. read_flank before m ++ items) (read_flanks-append (before ++ m ∷ []) ms ns)
-    ∙ sym (append_assoc (read_flank before m) (read_flanks (before ++ m ∷ []) ms) (read_flanks ((before ++ m ∷ []) ++ ms) ns))
-    ∙ ap (λ b. read_flanks before (m ∷ ms) ++ read_flanks b ns) (append_assoc before (m ∷ []) ms)
-
 -- after mentions these flanks have come, and this is the table
-record Matches (n : ℕ) (before ms : List Mention) (flanks : List FlankForm) (table : List Bool) : Type 0 where
-  reads : flanks ≡ read_flanks before ms
-  after : IsTable n (before ++ ms) table
+record Matches (n : ℕ) (before ms : List Mention) (table : List Bool) : Type 0 where
+  flanks : reads table ms ≡ read_flanks before ms
+  after : IsTable n (before ++ ms) (marks table ms)
 
-match_none : (n : ℕ) (before : List Mention) (table : List Bool) → IsTable n before table → Matches n before [] [] table
-match_none n before table s =
-    record { reads = refl; after = subst (λ b. IsTable n b table) (sym (append-nil before)) s }
-
-match_one : (n : ℕ) (before : List Mention) (m : Mention) (table : List Bool) → are_below n (m ∷ []) ≡ true → IsTable n before table → Matches n before (m ∷ []) (new_read table m) (marked table m)
-match_one n before m table below s =
-    let lt : m.array < n = ltb-true m.array n (both (nat_lt m.array n) true below).0 in
+mentions_match : (n : ℕ) (before ms : List Mention) (table : List Bool) → are_below n ms ≡ true → IsTable n before table → Matches n before ms table
+mentions_match n before [] table below s =
+    record { flanks = refl; after = subst (λ b. IsTable n b table) (sym (append-nil before)) s }
+mentions_match n before (m ∷ ms) table below s =
+    let each = both (nat_lt m.array n) (are_below n ms) below in
+    let lt : m.array < n = ltb-true m.array n each.0 in
+    let rest = mentions_match n (before ++ m ∷ []) ms (marked table m) each.1 (mark_table n before m table lt s) in
     record {
-      reads = ap (λ (b : Bool). if b then [] else read m.array m.index ∷ []) (s.marks m.array lt) ∙ sym (append-nil (read_flank before m));
-      after = mark_table n before m table lt s;
+      flanks = ap (λ (b : Bool). (if b then [] else read m.array m.index ∷ []) ++ reads (marked table m) ms) (s.marks m.array lt) ∙ ap (λ items. read_flank before m ++ items) rest.flanks;
+      after = subst (λ b. IsTable n b (marks (marked table m) ms)) (append_assoc before (m ∷ []) ms) rest.after;
     }
-
-match_both : (n : ℕ) (before ms ns : List Mention) (flanks more : List FlankForm) (table later : List Bool) → Matches n before ms flanks table → Matches n (before ++ ms) ns more later → Matches n before (ms ++ ns) (flanks ++ more) later
-match_both n before ms ns flanks more table later s t = record {
-  reads = ap (λ items. items ++ more) s.reads ∙ ap (λ items. read_flanks before ms ++ items) t.reads ∙ sym (read_flanks-append before ms ns);
-  after = subst (λ b. IsTable n b later) (append_assoc before ms ns) t.after;
-}
-
-mutual
-  part_matches : (n : ℕ) (before : List Mention) (p : PartForm) (table : List Bool) → are_below n (part_mentions p) ≡ true → IsTable n before table → Matches n before (part_mentions p) (part_reads p table) (part_marks p table)
-  part_matches n before (number w) table below s = match_none n before table s
-  part_matches n before (field f) table below s = match_none n before table s
-  part_matches n before (state a i) table below s = match_one n before (mention a i) table below s
-  part_matches n before (fresh k) table below s = match_none n before table s
-  part_matches n before (made k) table below s = match_none n before table s
-  part_matches n before (call unit ps) table below s = parts_match n before ps table below s
-  part_matches n before (un o p) table below s = part_matches n before p table below s
-  part_matches n before (chain p os) table below s =
-      let each = both_parts (λ m. nat_lt m.array n) (part_mentions p) (ops_mentions os) below in
-      let first = part_matches n before p table each.0 s in
-      match_both n before (part_mentions p) (ops_mentions os) _ _ _ _ first (ops_match n (before ++ part_mentions p) os (part_marks p table) each.1 first.after)
-  part_matches n before (choice c p q) table below s =
-      let test : Mention → Bool = λ m. nat_lt m.array n in
-      let each = both_parts test (part_mentions c) (part_mentions p ++ part_mentions q) below in
-      let sides = both_parts test (part_mentions p) (part_mentions q) each.1 in
-      let first = part_matches n before c table each.0 s in
-      let second = part_matches n (before ++ part_mentions c) p (part_marks c table) sides.0 first.after in
-      let third = part_matches n ((before ++ part_mentions c) ++ part_mentions p) q (part_marks p (part_marks c table)) sides.1 second.after in
-      match_both n before (part_mentions c) (part_mentions p ++ part_mentions q) _ _ _ _ first (match_both n (before ++ part_mentions c) (part_mentions p) (part_mentions q) _ _ _ _ second third)
-
-  parts_match : (n : ℕ) (before : List Mention) (ps : PartForms) (table : List Bool) → are_below n (parts_mentions ps) ≡ true → IsTable n before table → Matches n before (parts_mentions ps) (parts_reads ps table) (parts_marks ps table)
-  parts_match n before no_parts table below s = match_none n before table s
-  parts_match n before (part p ps) table below s =
-      let each = both_parts (λ m. nat_lt m.array n) (part_mentions p) (parts_mentions ps) below in
-      let first = part_matches n before p table each.0 s in
-      match_both n before (part_mentions p) (parts_mentions ps) _ _ _ _ first (parts_match n (before ++ part_mentions p) ps (part_marks p table) each.1 first.after)
-
-  ops_match : (n : ℕ) (before : List Mention) (os : OpForms) (table : List Bool) → are_below n (ops_mentions os) ≡ true → IsTable n before table → Matches n before (ops_mentions os) (ops_reads os table) (ops_marks os table)
-  ops_match n before no_ops table below s = match_none n before table s
-  ops_match n before (op o p os) table below s =
-      let each = both_parts (λ m. nat_lt m.array n) (part_mentions p) (ops_mentions os) below in
-      let first = part_matches n before p table each.0 s in
-      match_both n before (part_mentions p) (ops_mentions os) _ _ _ _ first (ops_match n (before ++ part_mentions p) os (part_marks p table) each.1 first.after)
-
-goal_matches : (n : ℕ) (before : List Mention) (g : Goal) (table : List Bool) → are_below n (goal_mentions g) ≡ true → IsTable n before table → Matches n before (goal_mentions g) (goal_reads g table) (goal_marks g table)
-goal_matches n before (goal.Field f) table below s = match_none n before table s
-goal_matches n before (goal.State a i) table below s = match_one n before (mention a i) table below s
-goal_matches n before (goal.Fresh k) table below s = match_none n before table s
-
-step_matches : (n : ℕ) (before : List Mention) (s : StepForm) (table : List Bool) → are_below n (step_mentions s) ≡ true → IsTable n before table → Matches n before (step_mentions s) (step_reads table s) (step_marks table s)
-step_matches n before s table below is =
-    let each = both_parts (λ m. nat_lt m.array n) (part_mentions s.value) (goal_mentions s.target) below in
-    let first = part_matches n before s.value table each.0 is in
-    match_both n before (part_mentions s.value) (goal_mentions s.target) _ _ _ _ first (goal_matches n (before ++ part_mentions s.value) s.target (part_marks s.value table) each.1 first.after)
 
 steps_match : (r : Ranges) (before : List Mention) (ss : List StepForm) (table : List Bool) → are_within r (map step_visit ss) ≡ true → IsTable r.arrays before table → steps_reads table ss ≡ with_reads before ss
 steps_match r before [] table within is = refl
 steps_match r before (s ∷ ss) table within is =
     let each = both (visit_within r (step_visit s)) (are_within r (map step_visit ss)) within in
-    let here = step_matches r.arrays before s table (step_below r s each.0) is in
-    ap (λ items. items ++ (set s ∷ steps_reads (step_marks table s) ss)) here.reads
-    ∙ ap (λ items. read_flanks before (step_mentions s) ++ (set s ∷ items)) (steps_match r (before ++ step_mentions s) ss (step_marks table s) each.1 here.after)
+    let here = mentions_match r.arrays before (step_mentions s) table (step_below r s each.0) is in
+    ap (λ items. items ++ (set s ∷ steps_reads (marks table (step_mentions s)) ss)) here.flanks
+    ∙ ap (λ items. read_flanks before (step_mentions s) ++ (set s ∷ items)) (steps_match r (before ++ step_mentions s) ss (marks table (step_mentions s)) each.1 here.after)
 
 empty_table : (n : ℕ) → IsTable n [] (replicate n false)
 empty_table n =

@@ -1,21 +1,17 @@
 -- Which arrays are mentioned, and at which index.
-use Rattle.std.proofs.Common.{◌≡◌, ◌≢◌, ℕ, ◌+◌, ◌<◌, Bool, true, false, not, ◌&&◌, ◌||◌, nat_eq, nat_lt, List, [], ◌∷◌, ◌++◌, map, refl, sym, ap, append_assoc, ◌∙◌, subst, arith, if◌then◌else◌}
-use Rattle.std.specs.Prelude.{flat_map, Option, Some, None}
-use Rattle.std.specs.List.{list_all, list_any}
-use Rattle.std.proofs.lemmas.Bool.{false≢true, eq-eqb, eqb-true, ne_eqb}
-use Rattle.std.proofs.lemmas.Grind.{flat_map-append}
-use Rattle.std.proofs.lemmas.List.{append-nil}
+use Rattle.std.proofs.Common.{◌≡◌, ◌≢◌, ℕ, Bool, true, false, not, ◌&&◌, ◌||◌, nat_eq, nat_lt, List, [], ◌∷◌, ◌++◌, map, refl, sym, ap, ◌∙◌, if◌then◌else◌}
+use Rattle.std.specs.List.{list_all}
+use Rattle.std.proofs.lemmas.Bool.{false≢true, eq-eqb, eqb-true}
 use Rattle.std.proofs.lemmas.List.Folds.{list_any-append}
-use Rattle.dom_words.specs.declared.hash.HashName.{HashName}
 use Rattle.dom_ast.specs.declared.part.Goal.{Goal}
 use Rattle.dom_ast.specs.declared.part.Goal.TheVariants as goal
 use Rattle.dom_ast.specs.declared.part.Place.{Place}
 use Rattle.dom_ast.specs.declared.part.Place.TheVariants as place
-use Rattle.dom_ast.specs.Kept.{Mention, Ranges, agree, are_within, parts_count, goal_mentions, goal_within, have_one_index, is_no_index, is_same_place, mention, mentions_in, ops_mentions, ops_within, part_mentions, part_within, parts_mentions, parts_within, place_within, visit_mentions, visit_within}
+use Rattle.dom_ast.specs.Kept.{Mention, Ranges, agree, parts_count, goal_mentions, goal_within, have_one_index, is_no_index, is_same_place, mentions_in, ops_mentions, ops_within, part_mentions, part_within, parts_mentions, parts_within, place_within, visit_within}
 use Rattle.dom_ast.specs.Resolved.{PartForm, number, field, state, fresh, made, call, un, chain, choice, PartForms, no_parts, part, OpForms, no_ops, op}
 use Rattle.dom_ast.specs.Straight.{StepForm, step_visit}
 use Rattle.state_flanks.specs.WithFlanks.{is_mentioned, step_mentions}
-use Rattle.state_flanks.proofs.Tests.{all_weaker, both, both_parts, join, join_parts, or_left, or_right}
+use Rattle.state_flanks.proofs.Tests.{all_weaker, both, join, join_parts, or_left, or_right}
 
 abbrev pub steps_mentions : List StepForm → List Mention
 steps_mentions ss = mentions_in (map step_visit ss)

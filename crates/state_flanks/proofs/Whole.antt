@@ -1,12 +1,12 @@
 -- What holds of a list that the tables gave.
-use Rattle.std.proofs.Common.{◌≡◌, ℕ, ◌+◌, ◌<◌, ◌≤◌, ◌^◌, true, false, List, [], ◌++◌, map, length, replicate, sym, ap, ◌∙◌, subst}
+use Rattle.std.proofs.Common.{◌≡◌, ℕ, ◌<◌, ◌≤◌, ◌^◌, true, false, List, [], ◌++◌, map, length, replicate, sym, ap, ◌∙◌, subst}
 use Rattle.std.specs.Prelude.{None}
 use Rattle.dom_words.specs.State.{Hash, IsStateOf, are_lengths}
 use Rattle.dom_words.specs.declared.array.Array.{Array}
 use Rattle.dom_ast.specs.Flanks.{FlankForm, are_flanked, flanked_outcome, flanks_nodes, flanks_within}
 use Rattle.dom_ast.specs.Kept.{are_within, have_one_index, keep_indexes, mentions_in}
 use Rattle.dom_ast.specs.Straight.{StepForm, step_visit, steps_nodes, straight_outcome, straight_ranges}
-use Rattle.state_flanks.specs.Tables.{new_writes, steps_noted, steps_reads}
+use Rattle.state_flanks.specs.inner.Tables.{new_writes, steps_noted, steps_reads}
 use Rattle.state_flanks.specs.WithFlanks.{with_flanks, with_reads}
 use Rattle.state_flanks.proofs.Between.{flanks_hold, with_flanks_within}
 use Rattle.state_flanks.proofs.Ends.{means_same}

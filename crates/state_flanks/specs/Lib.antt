@@ -1,2 +1,2 @@
-pub mod Tables
 pub mod WithFlanks
+pub mod inner

@@ -19,7 +19,7 @@ pub fn flank(alloc: Global, steps: Straight) -> Result<Flanked, Memory>
     ensures fresh { IfOk result (λ f. f.fresh ≡ steps.fresh) }
     ensures fields { IfOk result (λ f. f.fields ≡ steps.fields) }
     ensures arrays { IfOk result (λ f. f.arrays ≡ steps.arrays) }
-    ensures means { IfOk result (λ f. AgreeUnder (λ hash packet state. IsStateOf steps.arrays state) (λ hash packet state. flanked_outcome hash (map flank_form f.items) packet state) (λ hash packet state. straight_outcome hash (map step_form steps.steps) packet state)) }
+    ensures means { IfOk result (λ f. AgreeUnder (λ hash packet. IsStateOf steps.arrays) (λ hash. flanked_outcome hash (map flank_form f.items)) (λ hash. straight_outcome hash (map step_form steps.steps))) }
     ensures few { IfOk result (λ f. flanks_nodes (map flank_form f.items) < 2 ^ 23) }
 {
     let Straight {

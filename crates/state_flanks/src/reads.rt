@@ -2,9 +2,9 @@
 
 ghost use Rattle.std.specs.Prelude.{◌≡◌, ◌++◌, OnOk, map};
 ghost use Rattle.dom_ast.specs.Flanks.{flank_form};
-ghost use Rattle.dom_ast.specs.Kept.{mention};
+ghost use Rattle.dom_ast.specs.Kept.{goal_mentions, mention, ops_mentions, part_mentions, parts_mentions};
 ghost use Rattle.dom_ast.specs.Resolved.{form, forms, op_forms};
-ghost use Rattle.state_flanks.specs.Tables.{goal_marks, goal_reads, marked, new_read, ops_marks, ops_reads, part_marks, part_reads, parts_marks, parts_reads};
+ghost use Rattle.state_flanks.specs.inner.Tables.{marked, marks, new_read, reads};
 
 use dom_ast::{FlankItem, FlankList, Goal, Part, Place};
 use dom_words::{BinOp, Memory};
@@ -35,8 +35,8 @@ pub(crate) fn put_reads(
     mentioned: &mut [bool],
     items: &mut FlankList,
 ) -> Result<(), Memory>
-    ensures items { OnOk result (map flank_form items.new ≡ map flank_form items.old ++ part_reads (form part.now) mentioned.old) }
-    ensures mentioned { OnOk result (mentioned.new ≡ part_marks (form part.now) mentioned.old) }
+    ensures items { OnOk result (map flank_form items.new ≡ map flank_form items.old ++ reads mentioned.old (part_mentions (form part.now))) }
+    ensures mentioned { OnOk result (mentioned.new ≡ marks mentioned.old (part_mentions (form part.now))) }
 {
     match part {
         Part::Number(_) | Part::Field(_) | Part::Fresh(_) | Part::Made(_) => Ok(()),
@@ -59,8 +59,8 @@ pub(crate) fn put_reads(
 
 #[cycle(reads)]
 fn put_args(parts: &[Part], mentioned: &mut [bool], items: &mut FlankList) -> Result<(), Memory>
-    ensures items { OnOk result (map flank_form items.new ≡ map flank_form items.old ++ parts_reads (forms parts.now) mentioned.old) }
-    ensures mentioned { OnOk result (mentioned.new ≡ parts_marks (forms parts.now) mentioned.old) }
+    ensures items { OnOk result (map flank_form items.new ≡ map flank_form items.old ++ reads mentioned.old (parts_mentions (forms parts.now))) }
+    ensures mentioned { OnOk result (mentioned.new ≡ marks mentioned.old (parts_mentions (forms parts.now))) }
 {
     for part in parts {
         put_reads(part, mentioned, items)?;
@@ -74,8 +74,8 @@ fn put_operands(
     mentioned: &mut [bool],
     items: &mut FlankList,
 ) -> Result<(), Memory>
-    ensures items { OnOk result (map flank_form items.new ≡ map flank_form items.old ++ ops_reads (op_forms operands.now) mentioned.old) }
-    ensures mentioned { OnOk result (mentioned.new ≡ ops_marks (op_forms operands.now) mentioned.old) }
+    ensures items { OnOk result (map flank_form items.new ≡ map flank_form items.old ++ reads mentioned.old (ops_mentions (op_forms operands.now))) }
+    ensures mentioned { OnOk result (mentioned.new ≡ marks mentioned.old (ops_mentions (op_forms operands.now))) }
 {
     for (_, operand) in operands {
         put_reads(operand, mentioned, items)?;
@@ -89,8 +89,8 @@ pub(crate) fn put_target(
     mentioned: &mut [bool],
     items: &mut FlankList,
 ) -> Result<(), Memory>
-    ensures items { OnOk result (map flank_form items.new ≡ map flank_form items.old ++ goal_reads target mentioned.old) }
-    ensures mentioned { OnOk result (mentioned.new ≡ goal_marks target mentioned.old) }
+    ensures items { OnOk result (map flank_form items.new ≡ map flank_form items.old ++ reads mentioned.old (goal_mentions target)) }
+    ensures mentioned { OnOk result (mentioned.new ≡ marks mentioned.old (goal_mentions target)) }
 {
     match target {
         Goal::State { array, index } => put_read(array, index, mentioned, items),

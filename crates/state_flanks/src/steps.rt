@@ -3,7 +3,8 @@
 ghost use Rattle.std.specs.Prelude.{◌≡◌, ◌<◌, ◌^◌, [], ◌∷◌, ◌++◌, false, IfOk, None, OnOk, map, replicate};
 ghost use Rattle.dom_ast.specs.Flanks.{flank_form, set};
 ghost use Rattle.dom_ast.specs.Straight.{step_form};
-ghost use Rattle.state_flanks.specs.Tables.{new_writes, step_marks, step_reads, steps_noted, steps_reads};
+ghost use Rattle.state_flanks.specs.inner.Tables.{marks, new_writes, reads, steps_noted, steps_reads};
+ghost use Rattle.state_flanks.specs.WithFlanks.{step_mentions};
 
 use crate::reads::{put_reads, put_target};
 use crate::writes::{note, put_writes};
@@ -13,8 +14,8 @@ use std::alloc::Global;
 
 /// Puts a step at the end, behind the read flanks of the arrays that it is the first to mention.
 fn put_step(step: Step, mentioned: &mut [bool], items: &mut FlankList) -> Result<(), Memory>
-    ensures items { OnOk result (map flank_form items.new ≡ map flank_form items.old ++ (step_reads mentioned.old (step_form step) ++ set (step_form step) ∷ [])) }
-    ensures mentioned { OnOk result (mentioned.new ≡ step_marks mentioned.old (step_form step)) }
+    ensures items { OnOk result (map flank_form items.new ≡ map flank_form items.old ++ (reads mentioned.old (step_mentions (step_form step)) ++ set (step_form step) ∷ [])) }
+    ensures mentioned { OnOk result (mentioned.new ≡ marks mentioned.old (step_mentions (step_form step))) }
 {
     put_reads(&step.value, mentioned, items)?;
     put_target(step.target, mentioned, items)?;

@@ -2,7 +2,7 @@
 
 ghost use Rattle.std.specs.Prelude.{◌≡◌, ◌<◌, ◌^◌, ◌++◌, OnOk, length, map};
 ghost use Rattle.dom_ast.specs.Flanks.{flank_form};
-ghost use Rattle.state_flanks.specs.Tables.{new_writes, noted as noted_table};
+ghost use Rattle.state_flanks.specs.inner.Tables.{new_writes, noted as noted_table};
 
 use dom_ast::{FlankItem, FlankList, Goal, Place};
 use dom_words::Memory;

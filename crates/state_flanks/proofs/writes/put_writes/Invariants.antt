@@ -1,6 +1,6 @@
 use Rattle.std.proofs.Common.{◌≡◌, map, ◌++◌, drop}
 use Rattle.dom_ast.specs.Flanks.{flank_form}
-use Rattle.state_flanks.specs.Tables.{new_writes}
+use Rattle.state_flanks.specs.inner.Tables.{new_writes}
 use Rattle.state_flanks.proofs.writes.put_writes.Given as goal
 
 abbrev pub invariant-loop-place : goal.invariant-loop-place
