@@ -14,7 +14,8 @@ use Rattle.dom_ast.specs.declared.part.Part.TheFolds.{fold-roll-Part}
 use Rattle.dom_ast.specs.declared.part.Part.TheOpen.{Part-F}
 use Rattle.dom_ast.specs.declared.part.Part.TheVariants.{Call, rolls-Call}
 use Rattle.dom_ast.specs.declared.part.Part.TheViews.{Chain, rolls-Chain}
-use Rattle.dom_ast.specs.Resolved.{ActForm, PartForm, act_form, act_forms, act_step, assign, branch, call, chain, form, forms, op_forms, part_step}
+use Rattle.dom_ast.specs.Resolved.{ActForm, PartForm, act_form, act_forms, act_step, assign, branch, call, chain, form, forms, part_step}
+use Rattle.dom_ast.specs.inner.PartOps.{op_forms}
 
 pub form_call : (unit : HashName) (args : List Part) → form (Call unit args) ≡ call unit (forms args)
 form_call unit args = ap form (sym (rolls-Call unit args)) ∙ fold-roll-Part PartForm part_step (Part-F.Call unit args)

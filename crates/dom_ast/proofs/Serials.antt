@@ -18,7 +18,8 @@ use Rattle.dom_ast.specs.declared.part.Part.TheViews.{Chain}
 use Rattle.dom_ast.proofs.PartForms.{form_chain}
 use Rattle.dom_ast.specs.Kept.{Ranges, act_visits, acts_visits, are_within, bodies_visits, parts_count, goal_within, guard_visits, resolved_ranges, visit_within, ops_within, part_within, parts_within}
 use Rattle.dom_ast.specs.Meaning.{Env, all_acted, all_chosen, entering, folded, is_chosen, names_in, one_packet, value_in}
-use Rattle.dom_ast.specs.Resolved.{PartForm, ActForm, assign, branch, ActForms, no_acts, act, BodyForm, act_form, act_forms, bodies_form, body_form, guard_form, call, form, forms, op_forms}
+use Rattle.dom_ast.specs.Resolved.{PartForm, ActForm, assign, branch, ActForms, no_acts, act, BodyForm, act_form, act_forms, bodies_form, body_form, guard_form, call, form, forms}
+use Rattle.dom_ast.specs.inner.PartOps.{op_forms}
 use Rattle.dom_ast.specs.Serial.{IsPlaceOf}
 use Rattle.dom_ast.specs.inner.Runs.{act_within, acts_within, all_run, are_filled, bodies_within, guard_within, picked, ranges_over}
 

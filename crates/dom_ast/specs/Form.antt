@@ -97,12 +97,6 @@ form = fold-Expr ExprForm expr_step
 abbrev pub forms : List Expr → ExprForms
 forms es = exprs_of (map form es)
 
-abbrev pub op_form : BinOp × Expr → BinOp × ExprForm
-op_form p = (p.0, form p.1)
-
-abbrev pub op_forms : List (BinOp × Expr) → OpForms
-op_forms ps = ops_of (map op_form ps)
-
 abbrev pub target_form : Target → TargetForm
 target_form (target.Word name) = to_word name
 target_form (target.Field base field_at name) = to_field base field_at name

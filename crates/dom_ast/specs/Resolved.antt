@@ -84,12 +84,6 @@ form = fold-Part PartForm part_step
 abbrev pub forms : List Part → PartForms
 forms ps = parts_of (map form ps)
 
-abbrev pub op_form : BinOp × Part → BinOp × PartForm
-op_form p = (p.0, form p.1)
-
-abbrev pub op_forms : List (BinOp × Part) → OpForms
-op_forms ps = ops_of (map op_form ps)
-
 -- one level of a statement
 abbrev pub act_step : Act-F ActForm → ActForm
 act_step (Act-F.Assign target value) = assign target (form value)

@@ -3,7 +3,8 @@ ghost use Rattle.dom_words.specs.Operators.{bin_word};
 ghost use Rattle.dom_words.specs.State.{IsStateOf, are_lengths, array_of, fetched, started, stored};
 ghost use Rattle.dom_ast.specs.Kept.{goal_within, ops_within, part_within, parts_within, place_within};
 ghost use Rattle.dom_ast.specs.Meaning.{acted, all_acted, all_chosen, assigned, entering, folded, is_chosen, is_guard_true, names_in, one_packet, place_word, value_in, values};
-ghost use Rattle.dom_ast.specs.Resolved.{act_form, act_forms, bodies_form, call, form, forms, guard_form, op_forms};
+ghost use Rattle.dom_ast.specs.Resolved.{act_form, act_forms, bodies_form, call, form, forms, guard_form};
+ghost use Rattle.dom_ast.specs.inner.PartOps.{op_forms};
 ghost use Rattle.dom_ast.specs.Serial.{IsPlaceOf};
 ghost use Rattle.dom_ast.specs.inner.Runs.{act_within, acts_within, all_run, bodies_within, guard_within, picked, ranges_over};
 

@@ -19,7 +19,8 @@ use Rattle.dom_ast.specs.declared.stmt.Stmt.TheFolds.{fold-roll-Stmt}
 use Rattle.dom_ast.specs.declared.stmt.Stmt.TheOpen.{Stmt-F}
 use Rattle.dom_ast.specs.declared.stmt.Target.{Target}
 use Rattle.dom_ast.specs.declared.stmt.Target.TheVariants as target
-use Rattle.dom_ast.specs.Form.{ExprForm, OpForms, StmtForm, StmtForms, TargetForm, assign, branch, chain, choice, expr_step, form, forms, guard_form, op_forms, stmt_form, stmt_forms, stmt_step, target_form, to_field}
+use Rattle.dom_ast.specs.Form.{ExprForm, OpForms, StmtForm, StmtForms, TargetForm, assign, branch, chain, choice, expr_step, form, forms, guard_form, stmt_form, stmt_forms, stmt_step, target_form, to_field}
+use Rattle.dom_ast.specs.inner.ExprOps.{op_forms}
 use Rattle.dom_ast.specs.Resolved as tree
 use Rattle.dom_ast.specs.Kept.{Mention, act_visits, acts_visits, are_within, condition, guard_visits, is_empty, guard_mentions_none, mention, mentions_in, ops_mentions, part_mentions, resolved_ranges, visit_mentions}
 use Rattle.dom_checks.specs.declared.faults.CheckFault.{CheckFault}

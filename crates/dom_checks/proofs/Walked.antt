@@ -10,7 +10,9 @@ use Rattle.dom_ast.specs.declared.expr.Expr.{Expr}
 use Rattle.dom_ast.specs.declared.part.Part.{Part}
 use Rattle.dom_ast.specs.declared.stmt.Stmt.{Stmt}
 use Rattle.dom_ast.specs.Form as syntax
+use Rattle.dom_ast.specs.inner.ExprOps as expr_ops
 use Rattle.dom_ast.specs.Resolved as tree
+use Rattle.dom_ast.specs.inner.PartOps as part_ops
 use Rattle.dom_ast.specs.Kept.{Mention, act_visits, acts_visits, mentions_in, ops_mentions, part_mentions, parts_mentions, visit_mentions}
 use Rattle.dom_checks.specs.declared.faults.CheckFault.{CheckFault}
 use Rattle.dom_checks.specs.Answers.{IsFirst}
@@ -122,7 +124,7 @@ pub record OpsLeft (g : Bool) (scope : Scope) (before now : List Mention) (read 
   pub checks : first_fault (ops_checks g scope before all) ≡ first_fault (ops_checks g scope now left)
   pub seen : before ++ ops_mentions (ops_of scope all) ≡ now ++ ops_mentions (ops_of scope left)
 
-pub ops_start : (g : Bool) (scope : Scope) (before : List Mention) (xs : List (BinOp × Expr)) → OpsLeft g scope before before [] (syntax.op_forms xs) (syntax.op_forms xs)
+pub ops_start : (g : Bool) (scope : Scope) (before : List Mention) (xs : List (BinOp × Expr)) → OpsLeft g scope before before [] (expr_ops.op_forms xs) (expr_ops.op_forms xs)
 ops_start g scope before xs = record { form = refl; checks = refl; seen = refl }
 
 ops_next : (g : Bool) (scope : Scope) (before now after : List Mention) (read : List (BinOp × tree.PartForm)) (q : (BinOp × tree.PartForm)) (all : syntax.OpForms) (o : BinOp) (e : syntax.ExprForm) (rest : syntax.OpForms) → OpsLeft g scope before now read all (syntax.op o e rest)
@@ -135,39 +137,39 @@ ops_next g scope before now after read q all o e rest left is holds seen = recor
   seen = left.seen ∙ sym (append_assoc now (part_mentions (part_of scope e)) (ops_mentions (ops_of scope rest))) ∙ ap (λ (ms : List Mention). ms ++ ops_mentions (ops_of scope rest)) (sym seen);
 }
 
-ops_at : (xs : List (BinOp × Expr)) (i : ℕ) (x : (BinOp × Expr)) → slice_get xs i ≡ Some x → syntax.op_forms (drop i xs) ≡ syntax.op x.0 (syntax.form x.1) (syntax.op_forms (drop (i + 1) xs))
-ops_at xs i x is = ap syntax.op_forms (left_at xs i x is)
+ops_at : (xs : List (BinOp × Expr)) (i : ℕ) (x : (BinOp × Expr)) → slice_get xs i ≡ Some x → expr_ops.op_forms (drop i xs) ≡ syntax.op x.0 (syntax.form x.1) (expr_ops.op_forms (drop (i + 1) xs))
+ops_at xs i x is = ap expr_ops.op_forms (left_at xs i x is)
 
 -- one more is read
 pub ops_more : (g : Bool) (scope : Scope) (before now after : List Mention) (read new : List (BinOp × Part)) (q : (BinOp × Part)) (xs : List (BinOp × Expr)) (i : ℕ) (x : (BinOp × Expr)) → slice_get xs i ≡ Some x
-    → OpsLeft g scope before now (map tree.op_form read) (syntax.op_forms xs) (syntax.op_forms (drop i xs)) → new ≡ read ++ q ∷ [] → tree.op_form q ≡ (x.0, part_of scope (syntax.form x.1))
-    → first_fault (expr_checks g scope now (syntax.form x.1)) ≡ None → after ≡ now ++ part_mentions (part_of scope (syntax.form x.1)) → OpsLeft g scope before after (map tree.op_form new) (syntax.op_forms xs) (syntax.op_forms (drop (i + 1) xs))
+    → OpsLeft g scope before now (map part_ops.op_form read) (expr_ops.op_forms xs) (expr_ops.op_forms (drop i xs)) → new ≡ read ++ q ∷ [] → part_ops.op_form q ≡ (x.0, part_of scope (syntax.form x.1))
+    → first_fault (expr_checks g scope now (syntax.form x.1)) ≡ None → after ≡ now ++ part_mentions (part_of scope (syntax.form x.1)) → OpsLeft g scope before after (map part_ops.op_form new) (expr_ops.op_forms xs) (expr_ops.op_forms (drop (i + 1) xs))
 ops_more g scope before now after read new q xs i x there left is_new is holds seen =
-    rw (is_new, map-append tree.op_form read (q ∷ [])) (
-    ops_next g scope before now after (map tree.op_form read) (tree.op_form q) (syntax.op_forms xs) x.0 (syntax.form x.1) (syntax.op_forms (drop (i + 1) xs)) (rw (ops_at xs i x there) at left) is holds seen
+    rw (is_new, map-append part_ops.op_form read (q ∷ [])) (
+    ops_next g scope before now after (map part_ops.op_form read) (part_ops.op_form q) (expr_ops.op_forms xs) x.0 (syntax.form x.1) (expr_ops.op_forms (drop (i + 1) xs)) (rw (ops_at xs i x there) at left) is holds seen
     )
 
 -- the fault of the next is the first
 pub ops_fault : (g : Bool) (scope : Scope) (before now : List Mention) (read : List (BinOp × Part)) (f : CheckFault) (xs : List (BinOp × Expr)) (i : ℕ) (x : (BinOp × Expr)) → slice_get xs i ≡ Some x
-    → OpsLeft g scope before now (map tree.op_form read) (syntax.op_forms xs) (syntax.op_forms (drop i xs)) → IsFirst f (expr_checks g scope now (syntax.form x.1)) → IsFirst f (ops_checks g scope before (syntax.op_forms xs))
+    → OpsLeft g scope before now (map part_ops.op_form read) (expr_ops.op_forms xs) (expr_ops.op_forms (drop i xs)) → IsFirst f (expr_checks g scope now (syntax.form x.1)) → IsFirst f (ops_checks g scope before (expr_ops.op_forms xs))
 ops_fault g scope before now read f xs i x there left first =
-    let more = ops_checks g scope (now ++ part_mentions (part_of scope (syntax.form x.1))) (syntax.op_forms (drop (i + 1) xs)) in
-    first_same f (expr_checks g scope now (syntax.form x.1) ++ more) (ops_checks g scope before (syntax.op_forms xs))
+    let more = ops_checks g scope (now ++ part_mentions (part_of scope (syntax.form x.1))) (expr_ops.op_forms (drop (i + 1) xs)) in
+    first_same f (expr_checks g scope now (syntax.form x.1) ++ more) (ops_checks g scope before (expr_ops.op_forms xs))
     (ap (λ (es : syntax.OpForms). first_fault (ops_checks g scope now es)) (sym (ops_at xs i x there)) ∙ sym left.checks)
     (first_front f (expr_checks g scope now (syntax.form x.1)) more first)
 
-ops_end : (g : Bool) (scope : Scope) (before now : List Mention) (read : List (BinOp × Part)) (xs : List (BinOp × Expr)) (i : ℕ) → i ≡ length xs → OpsLeft g scope before now (map tree.op_form read) (syntax.op_forms xs) (syntax.op_forms (drop i xs)) → OpsLeft g scope before now (map tree.op_form read) (syntax.op_forms xs) syntax.no_ops
+ops_end : (g : Bool) (scope : Scope) (before now : List Mention) (read : List (BinOp × Part)) (xs : List (BinOp × Expr)) (i : ℕ) → i ≡ length xs → OpsLeft g scope before now (map part_ops.op_form read) (expr_ops.op_forms xs) (expr_ops.op_forms (drop i xs)) → OpsLeft g scope before now (map part_ops.op_form read) (expr_ops.op_forms xs) syntax.no_ops
 ops_end g scope before now read xs i is left =
-    rw (ap syntax.op_forms (ap (λ (k : ℕ). drop k xs) is ∙ all_left xs)) at left
+    rw (ap expr_ops.op_forms (ap (λ (k : ℕ). drop k xs) is ∙ all_left xs)) at left
 
 -- all are read
-pub ops_form : (g : Bool) (scope : Scope) (before now : List Mention) (read : List (BinOp × Part)) (xs : List (BinOp × Expr)) (i : ℕ) → i ≡ length xs → OpsLeft g scope before now (map tree.op_form read) (syntax.op_forms xs) (syntax.op_forms (drop i xs)) → tree.ops_of (map tree.op_form read) ≡ ops_of scope (syntax.op_forms xs)
-ops_form g scope before now read xs i is left = sym (ops_joined-all (map tree.op_form read)) ∙ (ops_end g scope before now read xs i is left).form
+pub ops_form : (g : Bool) (scope : Scope) (before now : List Mention) (read : List (BinOp × Part)) (xs : List (BinOp × Expr)) (i : ℕ) → i ≡ length xs → OpsLeft g scope before now (map part_ops.op_form read) (expr_ops.op_forms xs) (expr_ops.op_forms (drop i xs)) → tree.ops_of (map part_ops.op_form read) ≡ ops_of scope (expr_ops.op_forms xs)
+ops_form g scope before now read xs i is left = sym (ops_joined-all (map part_ops.op_form read)) ∙ (ops_end g scope before now read xs i is left).form
 
-pub ops_hold : (g : Bool) (scope : Scope) (before now : List Mention) (read : List (BinOp × Part)) (xs : List (BinOp × Expr)) (i : ℕ) → i ≡ length xs → OpsLeft g scope before now (map tree.op_form read) (syntax.op_forms xs) (syntax.op_forms (drop i xs)) → first_fault (ops_checks g scope before (syntax.op_forms xs)) ≡ None
+pub ops_hold : (g : Bool) (scope : Scope) (before now : List Mention) (read : List (BinOp × Part)) (xs : List (BinOp × Expr)) (i : ℕ) → i ≡ length xs → OpsLeft g scope before now (map part_ops.op_form read) (expr_ops.op_forms xs) (expr_ops.op_forms (drop i xs)) → first_fault (ops_checks g scope before (expr_ops.op_forms xs)) ≡ None
 ops_hold g scope before now read xs i is left = (ops_end g scope before now read xs i is left).checks
 
-pub ops_seen : (g : Bool) (scope : Scope) (before now : List Mention) (read : List (BinOp × Part)) (xs : List (BinOp × Expr)) (i : ℕ) → i ≡ length xs → OpsLeft g scope before now (map tree.op_form read) (syntax.op_forms xs) (syntax.op_forms (drop i xs)) → now ≡ before ++ ops_mentions (ops_of scope (syntax.op_forms xs))
+pub ops_seen : (g : Bool) (scope : Scope) (before now : List Mention) (read : List (BinOp × Part)) (xs : List (BinOp × Expr)) (i : ℕ) → i ≡ length xs → OpsLeft g scope before now (map part_ops.op_form read) (expr_ops.op_forms xs) (expr_ops.op_forms (drop i xs)) → now ≡ before ++ ops_mentions (ops_of scope (expr_ops.op_forms xs))
 ops_seen g scope before now read xs i is left = sym (append-nil now) ∙ sym (ops_end g scope before now read xs i is left).seen
 
 abbrev pub acts_mentions : tree.ActForms → List Mention

@@ -1,8 +1,10 @@
 ghost use Rattle.std.specs.Prelude.{◌≡◌, ◌<◌, ◌++◌, [], ◌∷◌, false, length, not, true, IfErr, IfOk, None, OnOk, Some};
 ghost use Rattle.dom_words.specs.Units.{unit_named};
 ghost use Rattle.dom_ast.specs.Form as syntax;
+ghost use Rattle.dom_ast.specs.inner.ExprOps as expr_ops;
 ghost use Rattle.dom_ast.specs.declared.part.Place.TheVariants as place;
 ghost use Rattle.dom_ast.specs.Resolved as tree;
+ghost use Rattle.dom_ast.specs.inner.PartOps as part_ops;
 ghost use Rattle.dom_ast.specs.Kept.{are_within, guard_visits, guard_mentions_none, mention, ops_mentions, part_mentions, parts_mentions, resolved_ranges};
 ghost use Rattle.dom_checks.specs.Answers.{AreNumbers, IsFirst, IsPlaceBelow, named};
 ghost use Rattle.dom_checks.specs.Resolve.{array_number, field_number as number_of, guard_of, name_part, ops_of, part_of, parts_of, place_of};
@@ -142,10 +144,10 @@ fn operands(
     seen: &mut Seen,
     rest: &[(BinOp, Expr)],
 ) -> Result<PartOps, CheckFault>
-    ensures form { IfOk result (λ ps. tree.op_forms ps ≡ ops_of scope.now (syntax.op_forms rest.now)) }
-    ensures holds { OnOk result (first_fault (ops_checks in_guard scope.now seen.old (syntax.op_forms rest.now)) ≡ None) }
-    ensures seen { OnOk result (seen.new ≡ seen.old ++ ops_mentions (ops_of scope.now (syntax.op_forms rest.now))) }
-    ensures fault { IfErr result (λ f. IsFirst f (ops_checks in_guard scope.now seen.old (syntax.op_forms rest.now))) }
+    ensures form { IfOk result (λ ps. part_ops.op_forms ps ≡ ops_of scope.now (expr_ops.op_forms rest.now)) }
+    ensures holds { OnOk result (first_fault (ops_checks in_guard scope.now seen.old (expr_ops.op_forms rest.now)) ≡ None) }
+    ensures seen { OnOk result (seen.new ≡ seen.old ++ ops_mentions (ops_of scope.now (expr_ops.op_forms rest.now))) }
+    ensures fault { IfErr result (λ f. IsFirst f (ops_checks in_guard scope.now seen.old (expr_ops.op_forms rest.now))) }
 {
     let mut parts = Seq::new(alloc);
     'operands: for (op, operand) in rest {
@@ -400,7 +402,7 @@ fn operated(alloc: Global, op: UnOp, arg: Part) -> Result<Part, CheckFault>
 }
 
 fn chained(alloc: Global, first: Part, rest: PartOps) -> Result<Part, CheckFault>
-    ensures form { IfOk result (λ p. tree.form p ≡ tree.chain (tree.form first) (tree.op_forms rest)) }
+    ensures form { IfOk result (λ p. tree.form p ≡ tree.chain (tree.form first) (part_ops.op_forms rest)) }
     ensures fault { IfErr result (λ f. f ≡ CheckFault.Memory) }
 {
     let first = boxed(alloc, first)?;

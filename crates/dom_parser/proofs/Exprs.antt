@@ -9,7 +9,8 @@ use Rattle.dom_words.specs.declared.operators.UnOp.{UnOp}
 use Rattle.dom_words.specs.declared.operators.UnOp.TheVariants as un
 use Rattle.dom_lexer.specs.declared.token.Token.{Token}
 use Rattle.dom_ast.specs.declared.expr.Expr.{Expr}
-use Rattle.dom_ast.specs.Form.{ExprForm, number, word, field, index, call, un as un_form, chain, choice, ExprForms, no_exprs, expr, no_ops, exprs_of, ops_of, form, forms, op_form, op_forms}
+use Rattle.dom_ast.specs.Form.{ExprForm, number, word, field, index, call, un as un_form, chain, choice, ExprForms, no_exprs, expr, no_ops, exprs_of, ops_of, form, forms}
+use Rattle.dom_ast.specs.inner.ExprOps.{op_form, op_forms}
 use Rattle.dom_parser.specs.declared.faults.Fault.{Fault}
 use Rattle.dom_parser.specs.declared.faults.Fault.TheVariants.{Unexpected, TooNested, Memory}
 use Rattle.dom_parser.specs.declared.kinds.Fixed.{Fixed}

@@ -14,7 +14,8 @@ use Rattle.dom_ast.specs.declared.stmt.Stmt.TheVariants.{Assign, If, rolls-Assig
 use Rattle.dom_ast.specs.declared.stmt.Stmt.TheFolds.{fold-roll-Stmt}
 use Rattle.dom_ast.specs.declared.stmt.Stmt.TheOpen.{Stmt-F}
 use Rattle.dom_ast.specs.declared.stmt.Target.{Target}
-use Rattle.dom_ast.specs.Form.{StmtForm, assign, branch, stmt_form, stmt_forms, stmt_step, target_form, ExprForm, number, word, field, index, call, un, chain, choice, form, forms, op_forms, expr_step}
+use Rattle.dom_ast.specs.Form.{StmtForm, assign, branch, stmt_form, stmt_forms, stmt_step, target_form, ExprForm, number, word, field, index, call, un, chain, choice, form, forms, expr_step}
+use Rattle.dom_ast.specs.inner.ExprOps.{op_forms}
 
 pub form_number : (p w : ℕ) → form (Number p w) ≡ number p w
 form_number p w = ap form (sym (rolls-Number p w)) ∙ fold-roll-Expr ExprForm expr_step (Expr-F.Number p w)

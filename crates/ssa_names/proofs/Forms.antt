@@ -11,7 +11,8 @@ use Rattle.dom_ast.specs.declared.part.Part.TheFolds.{fold-roll-Part}
 use Rattle.dom_ast.specs.declared.part.Part.TheOpen.{Part-F}
 use Rattle.ssa_names.specs.declared.operand.Operand.TheVariants.{Field}
 use Rattle.ssa_names.specs.Naming.{first_fields}
-use Rattle.dom_ast.specs.Resolved.{PartForm, call, chain, form, forms, op_forms, part_step}
+use Rattle.dom_ast.specs.Resolved.{PartForm, call, chain, form, forms, part_step}
+use Rattle.dom_ast.specs.inner.PartOps.{op_forms}
 
 pub form_call : (unit : HashName) (args : List Part) → form (Call unit args) ≡ call unit (forms args)
 form_call unit args = ap form (sym (rolls-Call unit args)) ∙ fold-roll-Part PartForm part_step (Part-F.Call unit args)

@@ -1,5 +1,6 @@
 ghost use Rattle.std.specs.Prelude.{◌≡◌, map, IfOk};
-ghost use Rattle.dom_ast.specs.Resolved.{form, op_form};
+ghost use Rattle.dom_ast.specs.Resolved.{form};
+ghost use Rattle.dom_ast.specs.inner.PartOps.{op_form};
 ghost use Rattle.ssa_names.specs.Naming.{renamed as renamed_form};
 ghost use Rattle.ssa_names.specs.Tables.{current_of, op_renamed};
 

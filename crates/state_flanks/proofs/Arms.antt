@@ -11,7 +11,8 @@ use Rattle.dom_ast.specs.declared.part.Part.TheFolds.{fold-roll-Part}
 use Rattle.dom_ast.specs.declared.part.Part.TheOpen.{Part-F}
 use Rattle.dom_ast.specs.declared.steps.Step.{Step}
 use Rattle.dom_ast.specs.Kept.{goal_mentions, ops_mentions, part_mentions, parts_mentions}
-use Rattle.dom_ast.specs.Resolved.{PartForm, form, forms, op_forms, part_step}
+use Rattle.dom_ast.specs.Resolved.{PartForm, form, forms, part_step}
+use Rattle.dom_ast.specs.inner.PartOps.{op_forms}
 use Rattle.dom_ast.specs.Straight.{step_form}
 use Rattle.state_flanks.specs.WithFlanks.{step_mentions}
 use Rattle.state_flanks.proofs.Marks.{Parts}

@@ -3,7 +3,8 @@
 ghost use Rattle.std.specs.Prelude.{◌≡◌, ◌++◌, OnOk, map};
 ghost use Rattle.dom_ast.specs.Flanks.{flank_form};
 ghost use Rattle.dom_ast.specs.Kept.{goal_mentions, mention, ops_mentions, part_mentions, parts_mentions};
-ghost use Rattle.dom_ast.specs.Resolved.{form, forms, op_forms};
+ghost use Rattle.dom_ast.specs.Resolved.{form, forms};
+ghost use Rattle.dom_ast.specs.inner.PartOps.{op_forms};
 ghost use Rattle.state_flanks.specs.inner.Tables.{marked, marks, new_read, reads};
 
 use dom_ast::{FlankItem, FlankList, Goal, Part, Place};

@@ -4,7 +4,8 @@ use Rattle.std.specs.Prelude.{Box}
 use Rattle.std.specs.declared.alloc.Global.{Global}
 use Rattle.dom_words.specs.declared.operators.BinOp.{BinOp}
 use Rattle.dom_ast.specs.PartSize.{ops_nodes, part_nodes}
-use Rattle.dom_ast.specs.Resolved.{PartForm, chain, form, op_forms, part_step}
+use Rattle.dom_ast.specs.Resolved.{PartForm, chain, form, part_step}
+use Rattle.dom_ast.specs.inner.PartOps.{op_forms}
 use Rattle.dom_ast.specs.declared.part.Part.{Part}
 use Rattle.dom_ast.specs.declared.part.Part.TheViews.{Chain, rolls-Chain}
 use Rattle.dom_ast.specs.declared.part.Part.TheFolds.{fold-roll-Part}

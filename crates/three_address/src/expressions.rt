@@ -2,7 +2,8 @@
 
 ghost use Rattle.std.specs.Prelude.{◌≡◌, ◌+◌, ◌*◌, ◌<◌, ◌≤◌, ◌^◌, ◌++◌, [], ◌∷◌, IfOk, OnOk, drop, length, slice_index_or};
 ghost use Rattle.dom_ast.specs.PartSize.{ops_nodes, part_nodes, parts_nodes};
-ghost use Rattle.dom_ast.specs.Resolved.{form, forms, op_forms};
+ghost use Rattle.dom_ast.specs.Resolved.{form, forms};
+ghost use Rattle.dom_ast.specs.inner.PartOps.{op_forms};
 ghost use Rattle.three_address.specs.Flattening.{all_flattened, as_is, as_modulus, first_modulus as modulus_of_first, flattened, folded};
 ghost use Rattle.three_address.specs.inner.Taking.{taken_by};
 

@@ -1,5 +1,6 @@
 use Rattle.std.proofs.Common.{◌≡◌, map, take}
-use Rattle.dom_ast.specs.Resolved.{form, op_form}
+use Rattle.dom_ast.specs.Resolved.{form}
+use Rattle.dom_ast.specs.inner.PartOps.{op_form}
 use Rattle.branch_removal.proofs.copy.+copy.Given as goal
 
 abbrev pub invariant-copy-loop-op : goal.invariant-copy-loop-op

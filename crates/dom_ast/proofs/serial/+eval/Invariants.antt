@@ -1,6 +1,7 @@
 use Rattle.std.proofs.Common.{◌≡◌, ◌++◌, drop, take}
 use Rattle.dom_ast.specs.Meaning.{entering, folded, names_in, values}
-use Rattle.dom_ast.specs.Resolved.{forms, op_forms}
+use Rattle.dom_ast.specs.Resolved.{forms}
+use Rattle.dom_ast.specs.inner.PartOps.{op_forms}
 use Rattle.dom_ast.proofs.serial.+eval.Given as goal
 
 abbrev pub invariant-eval_all-loop-k : goal.invariant-eval_all-loop-k

@@ -2,8 +2,10 @@ use Rattle.std.proofs.Common.{◌≡◌, length, refl, arith}
 use Rattle.std.proofs.lemmas.Option.{slice_get_read}
 use Rattle.std.proofs.lemmas.Result.{IfOk-weaker}
 use Rattle.dom_ast.specs.declared.part.Part.{Part}
-use Rattle.dom_ast.specs.Form.{form, op_forms}
+use Rattle.dom_ast.specs.Form.{form}
+use Rattle.dom_ast.specs.inner.ExprOps.{op_forms}
 use Rattle.dom_ast.specs.Resolved as tree
+use Rattle.dom_ast.specs.inner.PartOps as part_ops
 use Rattle.dom_checks.proofs.Arms.{always, as_chain, as_choice, chain_first, chain_form, chain_holds, chain_rest, chain_seen, choice_first, choice_holds, choice_second, choice_seen, choice_third, same_operand}
 use Rattle.dom_checks.proofs.Walked.{args_fault, args_form, args_more, ops_fault, ops_form, ops_more}
 use Rattle.dom_checks.proofs.expressions.+expressions.Goals as goal
@@ -48,10 +50,10 @@ expression-returns-in-Ok-operands-clause-seen t c =
 
 pub expression-returns-in-Ok-operands-clause-form : goal.expression-returns-in-Ok-operands-clause-form
 expression-returns-in-Ok-operands-clause-form t c =
-    IfOk-weaker c.chained.result (λ (p : Part). tree.form p ≡ tree.chain (tree.form c.in-Ok-expression-2.first) (tree.op_forms c.in-Ok-operands.rest)) _
+    IfOk-weaker c.chained.result (λ (p : Part). tree.form p ≡ tree.chain (tree.form c.in-Ok-expression-2.first) (part_ops.op_forms c.in-Ok-operands.rest)) _
     (λ p made. chain_form c.args.in_guard c.args.scope.now c.args.seen.now c.args.expr.now (form c.deref-in-Chain.result.now) (op_forms c.as_slice-in-Ok-expression-2.result.now)
     (as_chain c.args.expr.now c.in-Chain.first c.in-Chain.rest c.as_slice-in-Ok-expression-2.result.now c.deref-in-Chain.result.now c.in-Chain.is c.deref-in-Chain.ensures c.as_slice-in-Ok-expression-2.ensures)
-    (tree.form p) (tree.form c.in-Ok-expression-2.first) (tree.op_forms c.in-Ok-operands.rest) made c.in-Ok-expression-2.ensures.form c.in-Ok-operands.ensures.form)
+    (tree.form p) (tree.form c.in-Ok-expression-2.first) (part_ops.op_forms c.in-Ok-operands.rest) made c.in-Ok-expression-2.ensures.form c.in-Ok-operands.ensures.form)
     c.chained.ensures.form
 
 pub expression-returns-in-Err-expression-3-clause-fault : goal.expression-returns-in-Err-expression-3-clause-fault

@@ -1,6 +1,8 @@
 use Rattle.std.proofs.Common.{drop, map}
 use Rattle.dom_ast.specs.Form as syntax
+use Rattle.dom_ast.specs.inner.ExprOps as expr_ops
 use Rattle.dom_ast.specs.Resolved as tree
+use Rattle.dom_ast.specs.inner.PartOps as part_ops
 use Rattle.dom_checks.proofs.Walked.{ArgsLeft, OpsLeft}
 use Rattle.dom_checks.proofs.expressions.+expressions.Given as goal
 
@@ -10,4 +12,4 @@ invariant-arguments-arguments l =
 
 abbrev pub invariant-operands-operands : goal.invariant-operands-operands
 invariant-operands-operands l =
-    OpsLeft l.in_guard l.scope l.fn.seen l.seen (map tree.op_form l.parts) (syntax.op_forms l.rest) (syntax.op_forms (drop l.op-index l.rest))
+    OpsLeft l.in_guard l.scope l.fn.seen l.seen (map part_ops.op_form l.parts) (expr_ops.op_forms l.rest) (expr_ops.op_forms (drop l.op-index l.rest))

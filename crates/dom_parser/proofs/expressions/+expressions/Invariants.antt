@@ -1,5 +1,6 @@
 use Rattle.std.proofs.Common.{◌+◌, ◌-◌, ◌*◌, map, length}
-use Rattle.dom_ast.specs.Form.{form, op_form}
+use Rattle.dom_ast.specs.Form.{form}
+use Rattle.dom_ast.specs.inner.ExprOps.{op_form}
 use Rattle.dom_parser.proofs.SoFar.{LevelSoFar, ArgsSoFar}
 use Rattle.dom_parser.proofs.expressions.+expressions.Given as goal
 

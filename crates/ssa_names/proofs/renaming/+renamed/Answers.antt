@@ -1,5 +1,6 @@
 use Rattle.std.proofs.Common.{◌≡◌, map, sym, ap, ◌∙◌, rules}
-use Rattle.dom_ast.specs.Resolved.{call, chain, form, op_form, op_forms, ops_of, parts_of}
+use Rattle.dom_ast.specs.Resolved.{call, chain, form, ops_of, parts_of}
+use Rattle.dom_ast.specs.inner.PartOps.{op_form, op_forms}
 use Rattle.ssa_names.specs.Naming.{renamed}
 use Rattle.ssa_names.specs.Tables.{current_of}
 use Rattle.ssa_names.proofs.Forms.{form_call, form_chain}

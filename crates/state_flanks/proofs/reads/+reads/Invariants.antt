@@ -1,7 +1,8 @@
 use Rattle.std.proofs.Common.{◌≡◌, map, ◌++◌, drop}
 use Rattle.dom_ast.specs.Flanks.{flank_form}
 use Rattle.dom_ast.specs.Kept.{ops_mentions, parts_mentions}
-use Rattle.dom_ast.specs.Resolved.{forms, op_forms}
+use Rattle.dom_ast.specs.Resolved.{forms}
+use Rattle.dom_ast.specs.inner.PartOps.{op_forms}
 use Rattle.state_flanks.specs.inner.Tables.{marks, reads}
 use Rattle.state_flanks.proofs.reads.+reads.Given as goal
 

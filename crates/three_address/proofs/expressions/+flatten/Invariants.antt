@@ -1,6 +1,7 @@
 use Rattle.std.proofs.Common.{◌≡◌, ◌+◌, ◌*◌, ◌≤◌, ◌++◌, drop, length}
 use Rattle.dom_ast.specs.PartSize.{ops_nodes, part_nodes, parts_nodes}
-use Rattle.dom_ast.specs.Resolved.{form, forms, op_forms}
+use Rattle.dom_ast.specs.Resolved.{form, forms}
+use Rattle.dom_ast.specs.inner.PartOps.{op_forms}
 use Rattle.three_address.specs.Flattening.{all_flattened, as_is, folded}
 use Rattle.three_address.proofs.expressions.+flatten.Given as goal
 
