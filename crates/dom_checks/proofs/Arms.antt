@@ -25,10 +25,13 @@ use Rattle.dom_ast.specs.Resolved as tree
 use Rattle.dom_ast.specs.Kept.{Mention, act_visits, acts_visits, are_within, condition, guard_visits, is_empty, guard_mentions_none, mention, mentions_in, ops_mentions, part_mentions, resolved_ranges, visit_mentions}
 use Rattle.dom_checks.specs.declared.faults.CheckFault.{CheckFault}
 use Rattle.dom_checks.specs.declared.faults.CheckFault.TheVariants as fault
-use Rattle.dom_checks.specs.Answers.{AreNumbers, IsFirst, are_settled}
-use Rattle.dom_checks.specs.Resolve.{act_of, acts_of, array_number, field_number, guard_of, ops_of, part_of, place_of}
+use Rattle.dom_checks.specs.declared.meant.Meant.{Meant}
+use Rattle.dom_checks.specs.declared.meant.Meant.TheVariants as meaning
+use Rattle.dom_checks.specs.Answers.{IsFirst}
+use Rattle.dom_checks.specs.inner.Noted.{AreNumbers, are_settled}
+use Rattle.dom_checks.specs.Resolve.{act_of, acts_of, field_number, guard_of, ops_of, part_of, place_of}
 use Rattle.dom_checks.specs.Scope.{Scope, meant}
-use Rattle.dom_checks.specs.Walk.{Check, array_checks, check, expr_checks, exprs_count, field_checks, first_fault, index_checks, is_declared, kept_checks, mention_checks, ops_checks, place_checks, stmt_checks, stmts_checks, takes, target_checks, unit_checks}
+use Rattle.dom_checks.specs.Walk.{Check, array_checks, check, expr_checks, element_checks, exprs_count, field_checks, first_fault, index_checks, is_declared, kept_checks, mention_checks, ops_checks, place_checks, stmt_checks, stmts_checks, takes, target_checks, unit_checks}
 use Rattle.dom_checks.proofs.FirstFaults.{both_hold, faults_behind, first_behind, first_front, first_same}
 use Rattle.dom_checks.proofs.Sound.{expr_sound}
 use Rattle.dom_checks.proofs.SoundStmts.{condition_sound, stmts_sound}
@@ -128,18 +131,26 @@ module _ (g : Bool) (scope : Scope) (before : List Mention) (x : Expr) (e p q : 
 
 -- Elements.
 
-module _ (g : Bool) (scope : Scope) (before : List Mention) (p : ℕ) (name : List ℕ) (e : ExprForm) (f : CheckFault) (array_holds : first_fault (array_checks g scope p name) ≡ None) where
+module _ (g : Bool) (scope : Scope) (before : List Mention) (p : ℕ) (name : List ℕ) (e : ExprForm) (array_holds : first_fault (array_checks g scope p name) ≡ None) where
   abbrev last_checks : List Check
-  last_checks = mention_checks before p (mention (array_number (meant scope name)) (place_of scope e))
+  last_checks = element_checks before p (meant scope name) (place_of scope e)
 
-  pub element_place : IsFirst f (place_checks scope e) → IsFirst f (index_checks g scope before p name e)
-  element_place h = first_behind f (array_checks g scope p name) (place_checks scope e ++ last_checks) array_holds (first_front f (place_checks scope e) last_checks h)
+  pub element_place : (f : CheckFault) → IsFirst f (place_checks scope e) → IsFirst f (index_checks g scope before p name e)
+  element_place f h = first_behind f (array_checks g scope p name) (place_checks scope e ++ last_checks) array_holds (first_front f (place_checks scope e) last_checks h)
 
-  pub element_second : (k : ℕ) (i : Place) → k ≡ array_number (meant scope name) → i ≡ place_of scope e → first_fault (place_checks scope e) ≡ None → IsFirst f (mention_checks before p (mention k i)) → IsFirst f (index_checks g scope before p name e)
-  element_second k i array index holds h =
-      first_behind f (array_checks g scope p name) (place_checks scope e ++ last_checks) array_holds
-      (first_behind f (place_checks scope e) last_checks holds
-      (subst (λ (j : Place). IsFirst f (mention_checks before p (mention (array_number (meant scope name)) j))) index (subst (λ (n : ℕ). IsFirst f (mention_checks before p (mention n i))) array h)))
+  module _ (k : ℕ) (i : Place) (array : meant scope name ≡ Some (meaning.Array k)) (index : i ≡ place_of scope e) (place_holds : first_fault (place_checks scope e) ≡ None) where
+    same_checks : mention_checks before p (mention k i) ≡ last_checks
+    same_checks = ap (λ (j : Place). mention_checks before p (mention k j)) index ∙ ap (λ (o : Option Meant). element_checks before p o (place_of scope e)) (sym array)
+
+    pub element_second : (f : CheckFault) → IsFirst f (mention_checks before p (mention k i)) → IsFirst f (index_checks g scope before p name e)
+    element_second f h =
+        first_behind f (array_checks g scope p name) (place_checks scope e ++ last_checks) array_holds
+        (first_behind f (place_checks scope e) last_checks place_holds (subst (λ (checks : List Check). IsFirst f checks) same_checks h))
+
+    pub element_holds : first_fault (mention_checks before p (mention k i)) ≡ None → first_fault (index_checks g scope before p name e) ≡ None
+    element_holds h =
+        both_hold (array_checks g scope p name) (place_checks scope e ++ last_checks) array_holds
+        (both_hold (place_checks scope e) last_checks place_holds (ap first_fault (sym same_checks) ∙ h))
 
 -- Calls.
 

@@ -22,7 +22,7 @@ use Rattle.dom_checks.specs.declared.faults.Limit.TheVariants as limit
 use Rattle.dom_checks.specs.declared.meant.Meant.{Meant}
 use Rattle.dom_checks.specs.declared.meant.Meant.TheVariants as meaning
 use Rattle.dom_checks.specs.Resolve.{resolved}
-use Rattle.dom_checks.specs.Scope.{Scope, array_of, declared, global_meaning, heads_scope, meant, nothing, with_global}
+use Rattle.dom_checks.specs.Scope.{Scope, declared, declared_array, global_meaning, heads_scope, meant, nothing, with_global}
 use Rattle.dom_checks.specs.Walk.{check, fields_checks, first_fault, global_checks, head_checks, heads_checks, is_declared, is_hash_name, name_checks, new_field_checks, transactions_checks, violation}
 use Rattle.dom_checks.proofs.FirstFaults.{at_check, back_holds, front_holds}
 use Rattle.dom_checks.proofs.LookUps.{not_declared}
@@ -57,7 +57,7 @@ module _ (p : List ℕ → Bool) where
       all_pass (declared scope (head.Struct q tag fields)) hs record { of_fields = parts.0; of_arrays = pass.of_arrays } parts.1
   all_pass scope (head.Global q name l i ∷ hs) pass all =
       let parts = and_parts (p name) (list_all p (declared_names hs)) all in
-      let array = array_of (with_global scope name l) name l i in
+      let array = declared_array (with_global scope name l) name l i in
       all_pass (declared scope (head.Global q name l i)) hs record {
         of_fields = pass.of_fields;
         of_arrays =
@@ -80,7 +80,7 @@ no_longer scope (head.Struct q tag fields ∷ hs) =
     omega (arith, sum_by-append (λ (n : List ℕ). length n) (texts fields) (declared_names hs))
 no_longer scope (head.Global q name l i ∷ hs) =
     let rest = no_longer (declared scope (head.Global q name l i)) hs in
-    let array = array_of (with_global scope name l) name l i in
+    let array = declared_array (with_global scope name l) name l i in
     omega (
       arith,
       sum_by-cons (λ (n : List ℕ). length n) name (declared_names hs),
@@ -181,7 +181,7 @@ head_apart scope (head.Struct q tag fields) a holds =
       fields = fields_apart [] fields empty_apart holds;
     }
 head_apart scope (head.Global q name l i) a holds =
-    let array : Array = array_of (with_global scope name l) name l i in
+    let array : Array = declared_array (with_global scope name l) name l i in
     let names : List (List ℕ) = scope.names ++ name ∷ [] in
     let new = new_name scope q name a.paired (front_holds (name_checks scope q name) (drop 2 (head_checks scope (head.Global q name l i))) holds) in
     record {

@@ -9,7 +9,7 @@ use Rattle.dom_ast.specs.declared.program.Length.{Length}
 use Rattle.std.specs.Prelude.{Option, Some, None}
 use Rattle.dom_checks.specs.declared.meant.Meant.{Meant}
 use Rattle.dom_checks.specs.declared.meant.Meant.TheVariants as meaning
-use Rattle.dom_checks.specs.Kept.{IsKept, is_numbered}
+use Rattle.dom_checks.specs.inner.Kept.{IsKept, is_numbered}
 use Rattle.dom_checks.specs.Scope.{global_meaning}
 
 is_numbered_more : (n : ℕ) (m : Meant) → is_numbered n m ≡ true → is_numbered (n + 1) m ≡ true
@@ -42,3 +42,10 @@ kept_more fields names meanings arrays name words l array kept room size few =
       summed = omega (arith, state_words_more arrays array);
       few_words = omega arith;
     }
+
+-- the same of lists that are these with one more at their ends
+pub kept_as : (fields names names_now : List (List ℕ)) (meanings meanings_now : List Meant) (arrays arrays_now : List Array) (name : List ℕ) (words : ℕ) (l : Option Length) (m : Meant) (array : Array)
+    → names_now ≡ names ++ name ∷ [] → meanings_now ≡ meanings ++ m ∷ [] → arrays_now ≡ arrays ++ array ∷ [] → m ≡ global_meaning (length arrays) l
+    → IsKept fields names meanings arrays words → length arrays < 32 → is_length array.length ≡ true → state_words arrays + array.length ≤ 1048576 → IsKept fields names_now meanings_now arrays_now (words + array.length)
+kept_as fields names names_now meanings meanings_now arrays arrays_now name words l m array more_names more_meanings more_arrays meant kept room size few =
+    rw (more_names, more_meanings, more_arrays, meant) (kept_more fields names meanings arrays name words l array kept room size few)

@@ -1,9 +1,8 @@
 -- What a name means where one more name is declared.
-use Rattle.std.proofs.Common.{◌≡◌, ℕ, zero, suc, ◌+◌, Bool, true, false, not, ◌||◌, is_some, List, [], ◌∷◌, ◌++◌, length, length-append, if◌then◌else◌, refl, sym, ap, ◌∙◌, cond, nat_lt, Some, None, option_map, position, slice_get, rules, arith}
+use Rattle.std.proofs.Common.{◌≡◌, ℕ, suc, ◌+◌, Bool, true, false, ◌||◌, is_some, List, [], ◌∷◌, ◌++◌, length, length-append, if◌then◌else◌, refl, sym, ap, ◌∙◌, cond, nat_lt, Some, None, option_map, position, arith}
 use Prim.Native.Nat.compare
 use Rattle.std.specs.Prelude.{Option}
 use Rattle.std.specs.List.{list_any, position_or_len}
-use Rattle.std.proofs.lemmas.Grind.{common_steps}
 use Rattle.dom_words.specs.Names.{has_name, is_same}
 use Rattle.dom_checks.specs.declared.meant.Meant.{Meant}
 use Rattle.dom_checks.specs.declared.meant.Meant.TheVariants as meaning

@@ -9,9 +9,9 @@ use Rattle.dom_ast.specs.declared.program.Head.TheVariants as head
 use Rattle.dom_ast.specs.declared.program.Length.{Length}
 use Rattle.dom_checks.specs.declared.meant.Meant.{Meant}
 use Rattle.dom_checks.specs.declared.meant.Meant.TheVariants as meaning
-use Rattle.dom_checks.specs.Answers.{AreNumbers, has_scalar, is_apart, is_scalar}
-use Rattle.dom_checks.specs.Kept.{is_numbered}
-use Rattle.dom_checks.specs.Scope.{Scope, array_of, declared, global_meaning, heads_scope, nothing, with_global}
+use Rattle.dom_checks.specs.inner.Noted.{AreNumbers, has_scalar, is_apart, is_scalar}
+use Rattle.dom_checks.specs.inner.Kept.{is_numbered}
+use Rattle.dom_checks.specs.Scope.{Scope, declared, declared_array, global_meaning, heads_scope, nothing, with_global}
 
 -- no number from n on is that of a scalar
 no_scalar : (n : ℕ) (ms : List Meant) → list_all (is_numbered n) ms ≡ true → has_scalar ms n ≡ false
@@ -95,7 +95,7 @@ numbers_more : (scope : Scope) (h : Head) → AreNumbers (length scope.arrays) s
 numbers_more scope (head.Define p name w) n = define_more (length scope.arrays) scope.meanings w n
 numbers_more scope (head.Struct p tag fields) n = n
 numbers_more scope (head.Global p name l i) n =
-    subst (λ (k : ℕ). AreNumbers k (scope.meanings ++ global_meaning (length scope.arrays) l ∷ [])) (sym (one_array scope.arrays (array_of (with_global scope name l) name l i)))
+    subst (λ (k : ℕ). AreNumbers k (scope.meanings ++ global_meaning (length scope.arrays) l ∷ [])) (sym (one_array scope.arrays (declared_array (with_global scope name l) name l i)))
     (global_more (length scope.arrays) scope.meanings l n)
 
 numbers_after : (scope : Scope) (heads : List Head) → AreNumbers (length scope.arrays) scope.meanings → AreNumbers (length (fold declared scope heads).arrays) (fold declared scope heads).meanings

@@ -9,7 +9,7 @@ use Rattle.dom_ast.specs.declared.part.Place.{Place}
 use Rattle.dom_ast.specs.declared.part.Place.TheVariants as place
 use Rattle.dom_ast.specs.Kept.{Mention, agree, have_one_index, is_same_place, mention}
 use Rattle.dom_checks.specs.declared.meant.Meant.{Meant}
-use Rattle.dom_checks.specs.Answers.{are_settled, has_scalar, is_at_word}
+use Rattle.dom_checks.specs.inner.Noted.{are_settled, has_scalar, is_at_word}
 use Rattle.dom_checks.specs.Walk.{first_index, is_same_index}
 
 same_place : (i j : Place) → is_same_place i j ≡ true → i ≡ j

@@ -1,9 +1,8 @@
 -- What heads with one struct declare.
-use Rattle.std.proofs.Common.{◌≡◌, ℕ, zero, suc, ◌+◌, ◌≤◌, Bool, true, false, ◌&&◌, nat_eq, List, [], ◌∷◌, length, map, fold, refl, ◌∙◌, arith}
+use Rattle.std.proofs.Common.{◌≡◌, ℕ, ◌≤◌, true, nat_eq, List, [], ◌∷◌, length, map, fold, refl, arith}
 use Rattle.std.specs.Prelude.{None}
 use Rattle.std.specs.List.{count_by, list_all}
 use Rattle.std.proofs.lemmas.Bool.{and_parts, eqb-true}
-use Rattle.std.proofs.lemmas.List.Sums.{sum_by-cons}
 use Rattle.dom_ast.specs.declared.program.Head.{Head}
 use Rattle.dom_ast.specs.declared.program.Head.TheVariants as head
 use Rattle.dom_ast.specs.CheckedForm.{has_field, has_one_struct, is_some_field, is_struct}

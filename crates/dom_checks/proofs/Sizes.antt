@@ -1,10 +1,10 @@
 -- A resolved program is no larger than the program, and its `if`s are nested alike.
-use Rattle.std.proofs.Common.{◌≡◌, ℕ, zero, suc, ◌+◌, ◌≤◌, Bool, true, false, ◌&&◌, List, [], ◌∷◌, map, refl, sym, ap, ◌∙◌, arith}
+use Rattle.std.proofs.Common.{◌≡◌, ℕ, zero, suc, ◌≤◌, List, [], ◌∷◌, map, refl, arith}
 use Rattle.std.specs.Prelude.{Option, Some, None}
-use Rattle.std.specs.List.{list_all, sum}
 use Rattle.std.proofs.lemmas.List.Sums.{sum_by-cons}
 use Rattle.dom_words.specs.declared.hash.HashName.{HashName}
 use Rattle.dom_words.specs.Units.{unit_named}
+use Rattle.dom_ast.specs.declared.part.Place.{Place}
 use Rattle.dom_ast.specs.Form.{ExprForm, number, word, field, index, call, un, chain, choice, ExprForms, no_exprs, expr, OpForms, no_ops, op, StmtForm, assign, branch, StmtForms, no_stmts, stmt, TransactionForm, ProgramForm}
 use Rattle.dom_ast.specs.Resolved as tree
 use Rattle.dom_ast.specs.PartSize.{act_nested, act_nodes, acts_nested, acts_nodes, bodies_nested, bodies_nodes, body_nodes, ops_nodes, part_nodes, parts_nodes}
@@ -13,7 +13,7 @@ use Rattle.dom_ast.specs.Size.{expr_nodes, exprs_nodes, program_nested, program_
 use Rattle.dom_ast.specs.Size as size
 use Rattle.dom_checks.specs.declared.meant.Meant.{Meant}
 use Rattle.dom_checks.specs.declared.meant.Meant.TheVariants as meaning
-use Rattle.dom_checks.specs.Resolve.{act_of, acts_of, body_of, call_part, guard_of, name_part, ops_of, part_of, parts_of, resolved}
+use Rattle.dom_checks.specs.Resolve.{act_of, acts_of, body_of, call_part, element_part, guard_of, name_part, ops_of, part_of, parts_of, place_of, resolved}
 use Rattle.dom_checks.specs.Scope.{Scope, heads_scope, meant, with_param}
 
 name_is_one : (m : Option Meant) → part_nodes (name_part m) ≡ 1
@@ -22,6 +22,13 @@ name_is_one (Some (meaning.Define w)) = refl
 name_is_one (Some (meaning.Scalar k)) = refl
 name_is_one (Some (meaning.Array k)) = refl
 name_is_one (Some meaning.Parameter) = refl
+
+element_is_one : (m : Option Meant) (i : Place) → part_nodes (element_part m i) ≡ 1
+element_is_one None i = refl
+element_is_one (Some (meaning.Define w)) i = refl
+element_is_one (Some (meaning.Scalar k)) i = refl
+element_is_one (Some (meaning.Array k)) i = refl
+element_is_one (Some meaning.Parameter) i = refl
 
 call_is_few : (unit : Option HashName) (parts : tree.PartForms) → part_nodes (call_part unit parts) ≤ suc (parts_nodes parts)
 call_is_few None parts = omega arith
@@ -32,7 +39,7 @@ mutual
   part_is_few scope (number p w) = omega arith
   part_is_few scope (word p n) = omega (arith, name_is_one (meant scope n))
   part_is_few scope (field p b q f) = omega arith
-  part_is_few scope (index p n e) = omega arith
+  part_is_few scope (index p n e) = omega (arith, element_is_one (meant scope n) (place_of scope e))
   part_is_few scope (call p n es) = omega (arith, call_is_few (unit_named n) (parts_of scope es), parts_are_few scope es)
   part_is_few scope (un p o e) = omega (arith, part_is_few scope e)
   part_is_few scope (chain e os) = omega (arith, part_is_few scope e, ops_are_few scope os)

@@ -16,11 +16,11 @@ use Rattle.dom_ast.specs.Kept.{Mention, parts_count, mention, ops_mentions, ops_
 use Rattle.dom_checks.specs.declared.faults.CheckFault.TheVariants as fault
 use Rattle.dom_checks.specs.declared.meant.Meant.{Meant}
 use Rattle.dom_checks.specs.declared.meant.Meant.TheVariants as meaning
-use Rattle.dom_checks.specs.Answers.{AreNumbers, are_settled, has_scalar, is_apart, is_at_word, is_scalar}
-use Rattle.dom_checks.specs.Kept.{is_numbered}
-use Rattle.dom_checks.specs.Resolve.{array_number, call_part, field_number, name_part, ops_of, part_of, parts_of, place_of}
+use Rattle.dom_checks.specs.inner.Noted.{AreNumbers, are_settled, has_scalar, is_apart, is_at_word, is_scalar}
+use Rattle.dom_checks.specs.inner.Kept.{is_numbered}
+use Rattle.dom_checks.specs.Resolve.{call_part, element_part, field_number, name_part, ops_of, part_of, parts_of, place_of}
 use Rattle.dom_checks.specs.Scope.{Scope, meaning_at, meant, is_param}
-use Rattle.dom_checks.specs.Walk.{check, expr_checks, exprs_checks, exprs_count, field_checks, first_fault, first_index, index_checks, is_array, is_declared, is_hash_name, is_parameter, is_same_index, is_value, ops_checks, place_checks, takes, unit_checks}
+use Rattle.dom_checks.specs.Walk.{check, element_checks, expr_checks, exprs_checks, exprs_count, field_checks, first_fault, first_index, index_checks, is_array, is_declared, is_hash_name, is_parameter, is_same_index, is_value, ops_checks, place_checks, takes, unit_checks}
 use Rattle.dom_checks.proofs.FirstFaults.{at_check, back_holds, front_holds}
 use Rattle.dom_checks.proofs.OneIndex.{scalar_first, settled_more}
 
@@ -156,32 +156,35 @@ module _ (scope : Scope) (numbers : AreNumbers (length scope.arrays) scope.meani
   place_inside (chain e os) holds = refl
   place_inside (choice e a b) holds = refl
 
-  element_sound : (g : Bool) (before : List Mention) (o : Option Meant) (i : Place) → ((m : Meant) → o ≡ Some m → IsMeaning scope.meanings m) → is_array o ≡ true → not g ≡ true
-      → place_within (resolved_ranges (length scope.fields) (length scope.arrays)) i ≡ true → is_same_index (first_index before (array_number o)) i ≡ true
-      → IsSound g scope before (nat_lt (array_number o) (length scope.arrays) && place_within (resolved_ranges (length scope.fields) (length scope.arrays)) i) (mention (array_number o) i ∷ [])
-  element_sound g before None i is array free inside same = absurd (true≢false (sym array))
-  element_sound g before (Some (meaning.Define w)) i is array free inside same = absurd (true≢false (sym array))
-  element_sound g before (Some (meaning.Scalar k)) i is array free inside same = absurd (true≢false (sym array))
-  element_sound g before (Some (meaning.Array k)) i is array free inside same =
+  element_sound : (g : Bool) (before : List Mention) (p : ℕ) (o : Option Meant) (i : Place) → ((m : Meant) → o ≡ Some m → IsMeaning scope.meanings m) → not g ≡ true
+      → place_within (resolved_ranges (length scope.fields) (length scope.arrays)) i ≡ true → first_fault (element_checks before p o i) ≡ None
+      → IsSound g scope before (part_within (resolved_ranges (length scope.fields) (length scope.arrays)) (element_part o i)) (part_mentions (element_part o i))
+  element_sound g before p None i is free inside holds = quiet g scope before true refl
+  element_sound g before p (Some (meaning.Define w)) i is free inside holds = quiet g scope before true refl
+  element_sound g before p (Some (meaning.Scalar k)) i is free inside holds = quiet g scope before true refl
+  element_sound g before p (Some (meaning.Array k)) i is free inside holds =
       let m : IsMeaning scope.meanings (meaning.Array k) = is (meaning.Array k) refl in
       mentioned g scope before _ (mention k i)
       (and_from (nat_lt k (length scope.arrays)) _ (array_below (length scope.arrays) scope.meanings k numbers.below m) inside)
       (not_true g free)
-      (λ s. same)
+      (λ s. (at_check (fault.TwoIndexes p) (is_same_index (first_index before k) i) [] holds).0)
       (or_left (not (has_scalar scope.meanings k)) _ (is_no_scalar scope.meanings k numbers.apart m))
-  element_sound g before (Some meaning.Parameter) i is array free inside same = absurd (true≢false (sym array))
+  element_sound g before p (Some meaning.Parameter) i is free inside holds = quiet g scope before true refl
 
   pub index_sound : (g : Bool) (before : List Mention) (p : ℕ) (name : List ℕ) (e : ExprForm) → first_fault (index_checks g scope before p name e) ≡ None
-      → IsSound g scope before (nat_lt (array_number (meant scope name)) (length scope.arrays) && place_within (resolved_ranges (length scope.fields) (length scope.arrays)) (place_of scope e)) (mention (array_number (meant scope name)) (place_of scope e) ∷ [])
+      → (is_array (meant scope name) ≡ true)
+      × IsSound g scope before (part_within (resolved_ranges (length scope.fields) (length scope.arrays)) (element_part (meant scope name) (place_of scope e))) (part_mentions (element_part (meant scope name) (place_of scope e)))
   index_sound g before p name e holds =
-      let same = is_same_index (first_index before (array_number (meant scope name))) (place_of scope e) in
-      let rest = place_checks scope e ++ check (fault.TwoIndexes p) same ∷ [] in
+      let last = element_checks before p (meant scope name) (place_of scope e) in
+      let rest = place_checks scope e ++ last in
       let first : ((is_declared scope name || is_hash_name name) ≡ true) × (first_fault (check (fault.ShapeOfName p) (is_array (meant scope name) && not g) ∷ rest) ≡ None) = at_check (fault.UnknownName p) (is_declared scope name || is_hash_name name) (check (fault.ShapeOfName p) (is_array (meant scope name) && not g) ∷ rest) holds in
       let second : ((is_array (meant scope name) && not g) ≡ true) × (first_fault rest ≡ None) = at_check (fault.ShapeOfName p) (is_array (meant scope name) && not g) rest first.1 in
-      let shape : (is_array (meant scope name) ≡ true) × (not g ≡ true) = and_parts (is_array (meant scope name)) (not g) second.0 in
-      element_sound g before (meant scope name) (place_of scope e) (λ m is. its_meaning scope name m is) shape.0 shape.1
-      (place_inside e (front_holds (place_checks scope e) (check (fault.TwoIndexes p) same ∷ []) second.1))
-      (at_check (fault.TwoIndexes p) same [] (back_holds (place_checks scope e) (check (fault.TwoIndexes p) same ∷ []) second.1)).0
+      let shape : (is_array (meant scope name) ≡ true) × (not g ≡ true) = and_parts (is_array (meant scope name)) (not g) second.0 in (
+        shape.0,
+        element_sound g before p (meant scope name) (place_of scope e) (λ m is. its_meaning scope name m is) shape.1
+            (place_inside e (front_holds (place_checks scope e) last second.1))
+            (back_holds (place_checks scope e) last second.1),
+      )
 
   count_same : (es : ExprForms) → parts_count (parts_of scope es) ≡ exprs_count es
   count_same no_exprs = refl
@@ -205,7 +208,7 @@ module _ (scope : Scope) (numbers : AreNumbers (length scope.arrays) scope.meani
         let first : ((not (is_hash_name n) && is_value g (meant scope n)) ≡ true) × (first_fault (check (fault.UnknownName p) (is_declared scope n) ∷ []) ≡ None) = at_check (fault.ShapeOfName p) (not (is_hash_name n) && is_value g (meant scope n)) (check (fault.UnknownName p) (is_declared scope n) ∷ []) holds in
         word_sound g before (meant scope n) (λ m is. its_meaning scope n m is) (and_parts (not (is_hash_name n)) (is_value g (meant scope n)) first.0).1
     expr_sound g before (field p b q f) holds = quiet g scope before _ (field_inside p b q f holds)
-    expr_sound g before (index p n e) holds = index_sound g before p n e holds
+    expr_sound g before (index p n e) holds = (index_sound g before p n e holds).1
     expr_sound g before (call p n es) holds =
         let own = unit_checks scope p n (exprs_count es) in
         let units : first_fault own ≡ None = front_holds own (exprs_checks g scope before es) holds in

@@ -5,7 +5,7 @@ use Rattle.std.proofs.lemmas.Grind.{flat_map-append}
 use Rattle.std.proofs.lemmas.List.{append-nil}
 use Rattle.std.proofs.lemmas.List.Folds.{list_all-append}
 use Rattle.dom_ast.specs.declared.part.Goal.{Goal}
-use Rattle.dom_ast.specs.declared.part.Goal.TheVariants as goal
+use Rattle.dom_ast.specs.declared.part.Place.{Place}
 use Rattle.dom_ast.specs.declared.part.Place.TheVariants as place
 use Rattle.dom_ast.specs.Form.{TargetForm, to_word, to_field, to_index, StmtForm, assign, branch, StmtForms, no_stmts, stmt}
 use Rattle.dom_ast.specs.Resolved.{PartForm}
@@ -13,10 +13,10 @@ use Rattle.dom_ast.specs.Kept.{Mention, Visit, act_visits, acts_visits, are_with
 use Rattle.dom_checks.specs.declared.faults.CheckFault.TheVariants as fault
 use Rattle.dom_checks.specs.declared.meant.Meant.{Meant}
 use Rattle.dom_checks.specs.declared.meant.Meant.TheVariants as meaning
-use Rattle.dom_checks.specs.Answers.{AreNumbers, are_settled}
-use Rattle.dom_checks.specs.Resolve.{act_of, acts_of, array_number, field_number, goal_of, part_of}
+use Rattle.dom_checks.specs.inner.Noted.{AreNumbers, are_settled}
+use Rattle.dom_checks.specs.Resolve.{act_of, acts_of, element_goal, element_part, field_number, goal_of, part_of, place_of, word_goal}
 use Rattle.dom_checks.specs.Scope.{Scope, meant}
-use Rattle.dom_checks.specs.Walk.{check, expr_checks, field_checks, first_fault, is_declared, is_hash_name, is_target, stmt_checks, stmts_checks, target_checks}
+use Rattle.dom_checks.specs.Walk.{check, expr_checks, field_checks, first_fault, is_array, is_declared, is_hash_name, is_target, stmt_checks, stmts_checks, target_checks}
 use Rattle.dom_checks.proofs.FirstFaults.{at_check, back_holds, front_holds}
 use Rattle.dom_checks.proofs.Sound.{IsSound, IsMeaning, expr_sound, field_inside, index_sound, its_meaning, word_sound}
 
@@ -86,7 +86,7 @@ assignment_sound scope before g p s t = record {
 
 module _ (scope : Scope) (numbers : AreNumbers (length scope.arrays) scope.meanings) where
   -- a scalar may be a target where it may be a value
-  scalar_goal : (before : List Mention) (o : Option Meant) → ((m : Meant) → o ≡ Some m → IsMeaning scope.meanings m) → is_target o ≡ true → Rattle.std.specs.Option.is_some o ≡ true → IsSoundGoal scope before (goal.State (array_number o) (place.Word 0))
+  scalar_goal : (before : List Mention) (o : Option Meant) → ((m : Meant) → o ≡ Some m → IsMeaning scope.meanings m) → is_target o ≡ true → Rattle.std.specs.Option.is_some o ≡ true → IsSoundGoal scope before (word_goal o)
   scalar_goal before None is target there = absurd (true≢false (sym there))
   scalar_goal before (Some (meaning.Define w)) is target there = absurd (true≢false (sym target))
   scalar_goal before (Some (meaning.Scalar k)) is target there =
@@ -94,6 +94,14 @@ module _ (scope : Scope) (numbers : AreNumbers (length scope.arrays) scope.meani
       record { inside = s.inside; kept = refl; settled = s.settled }
   scalar_goal before (Some (meaning.Array k)) is target there = absurd (true≢false (sym target))
   scalar_goal before (Some meaning.Parameter) is target there = absurd (true≢false (sym target))
+
+  -- an array with an index may be a target where it may be a value
+  element_target : (before : List Mention) (o : Option Meant) (i : Place) → is_array o ≡ true → IsSound false scope before (part_within (resolved_ranges (length scope.fields) (length scope.arrays)) (element_part o i)) (part_mentions (element_part o i)) → IsSoundGoal scope before (element_goal o i)
+  element_target before None i array s = absurd (true≢false (sym array))
+  element_target before (Some (meaning.Define w)) i array s = absurd (true≢false (sym array))
+  element_target before (Some (meaning.Scalar k)) i array s = absurd (true≢false (sym array))
+  element_target before (Some (meaning.Array k)) i array s = record { inside = s.inside; kept = refl; settled = s.settled }
+  element_target before (Some meaning.Parameter) i array s = absurd (true≢false (sym array))
 
   target_sound : (before : List Mention) (p : ℕ) (t : TargetForm) → first_fault (target_checks scope before p t) ≡ None → IsSoundGoal scope before (goal_of scope t)
   target_sound before p (to_word n) holds =
@@ -108,7 +116,7 @@ module _ (scope : Scope) (numbers : AreNumbers (length scope.arrays) scope.meani
       }
   target_sound before p (to_index n e) holds =
       let s = index_sound scope numbers false before p n e holds in
-      record { inside = s.inside; kept = refl; settled = s.settled }
+      element_target before (meant scope n) (place_of scope e) s.0 s.1
 
   mutual
     pub stmt_sound : (before : List Mention) (s : StmtForm) → first_fault (stmt_checks scope before s) ≡ None → AreSound scope before (act_visits (act_of scope s))

@@ -1,17 +1,17 @@
 -- What holds of the guards and bodies of a program whose checks hold.
-use Rattle.std.proofs.Common.{◌≡◌, ℕ, Bool, true, false, not, ◌&&◌, List, [], ◌∷◌, ◌++◌, length, map, Option, Some, None, refl, sym, ap, ◌∙◌, subst}
+use Rattle.std.proofs.Common.{◌≡◌, ℕ, true, ◌&&◌, List, [], ◌∷◌, ◌++◌, length, map, Option, Some, None, refl, sym, ap, ◌∙◌, subst}
 use Rattle.std.specs.List.{list_all}
 use Rattle.std.proofs.lemmas.Bool.{and_from, and_parts}
 use Rattle.std.proofs.lemmas.List.{append-nil}
 use Rattle.dom_words.specs.Names.{is_same}
-use Rattle.dom_ast.specs.Form.{ExprForm, StmtForms, TransactionForm, ProgramForm}
+use Rattle.dom_ast.specs.Form.{ExprForm, TransactionForm}
 use Rattle.dom_ast.specs.Resolved.{BodyForm, PartForm}
-use Rattle.dom_ast.specs.Kept.{Mention, Visit, acts_visits, guards_mention_none, are_within, bodies_visits, condition, guard_visits, have_one_index, is_empty, guard_mentions_none, keep_indexes, mentions_in, part_mentions, part_within, resolved_ranges}
+use Rattle.dom_ast.specs.Kept.{Mention, Visit, acts_visits, guards_mention_none, bodies_visits, condition, guard_visits, have_one_index, is_empty, guard_mentions_none, mentions_in, part_mentions, part_within, resolved_ranges}
 use Rattle.dom_checks.specs.declared.faults.CheckFault.TheVariants as fault
-use Rattle.dom_checks.specs.Answers.{AreNumbers, are_settled, is_at_word}
+use Rattle.dom_checks.specs.inner.Noted.{AreNumbers, are_settled, is_at_word}
 use Rattle.dom_checks.specs.Resolve.{acts_of, body_of, guard_of, part_of}
 use Rattle.dom_checks.specs.Scope.{Scope, with_param}
-use Rattle.dom_checks.specs.Walk.{Check, check, first_fault, guard_checks, name_checks, stmts_checks, stmts_mentions, transaction_checks, transactions_checks}
+use Rattle.dom_checks.specs.Walk.{first_fault, guard_checks, name_checks, stmts_checks, stmts_mentions, transaction_checks, transactions_checks}
 use Rattle.dom_checks.proofs.FirstFaults.{at_check, back_holds, front_holds}
 use Rattle.dom_checks.proofs.Sound.{IsSound, expr_sound}
 use Rattle.dom_checks.proofs.SoundStmts.{AreSound, chained, condition_mentions, mentions-append, no_visits, stmts_sound}

@@ -7,7 +7,7 @@ use Rattle.std.specs.Option.{option_map, option_or}
 use Rattle.dom_ast.specs.declared.part.Place.{Place}
 use Rattle.dom_ast.specs.declared.part.Place.TheVariants as place
 use Rattle.dom_ast.specs.Kept.{Mention, is_no_index, is_same_place, mention}
-use Rattle.dom_checks.specs.Answers.{AreFirsts, AreIndexes, AreTables}
+use Rattle.dom_checks.specs.inner.Noted.{AreFirsts, AreIndexes, AreTables}
 use Rattle.dom_checks.specs.Walk.{first_index}
 use Rattle.dom_checks.proofs.FirstFaults.{map_or}
 

@@ -1,8 +1,7 @@
 -- One transaction after another, and the parts of each.
-use Rattle.std.proofs.Common.{◌≡◌, ℕ, Bool, true, List, [], ◌∷◌, ◌++◌, map, Option, Some, None, refl, sym, ap, ◌∙◌, subst, append_assoc}
+use Rattle.std.proofs.Common.{◌≡◌, ℕ, Bool, true, List, [], ◌∷◌, ◌++◌, map, None, refl, sym, ap, ◌∙◌, subst, append_assoc}
 use Rattle.std.proofs.lemmas.List.{map-append}
 use Rattle.dom_words.specs.Names.{is_same}
-use Rattle.dom_ast.specs.declared.program.Head.{Head}
 use Rattle.dom_ast.specs.Form.{ProgramForm, TransactionForm}
 use Rattle.dom_ast.specs.Kept.{Mention}
 use Rattle.dom_ast.specs.Resolved.{BodyForm}
@@ -11,7 +10,7 @@ use Rattle.dom_checks.specs.declared.faults.CheckFault.TheVariants as fault
 use Rattle.dom_checks.specs.Answers.{IsFirst}
 use Rattle.dom_checks.specs.Resolve.{body_of}
 use Rattle.dom_checks.specs.Scope.{Scope, heads_scope, nothing, with_param}
-use Rattle.dom_checks.specs.Walk.{Check, check, first_fault, guard_checks, heads_checks, name_checks, stmts_checks, stmts_mentions, transaction_checks, transactions_checks, violation, walk}
+use Rattle.dom_checks.specs.Walk.{Check, check, first_fault, guard_checks, heads_checks, name_checks, stmts_checks, stmts_mentions, transaction_checks, transactions_checks, violation}
 use Rattle.dom_checks.specs.Verdict.{IsViolation}
 use Rattle.dom_checks.proofs.FirstFaults.{both_hold, faults_behind, first_behind, first_front, first_same}
 

@@ -1,6 +1,6 @@
 pub mod Answers
-pub mod Kept
 pub mod Resolve
 pub mod Scope
 pub mod Verdict
 pub mod Walk
+pub mod inner

@@ -19,22 +19,16 @@ use Rattle.dom_checks.specs.Scope.{Scope, define_word, heads_scope, meant, with_
 abbrev pub field_number : Scope → List ℕ → ℕ
 field_number scope name = unwrap_or (index_of scope.fields name) 0
 
--- The number of an array; a name that is no array counts as number 0. No answer shows that, since at such a name an earlier
--- check of the walk does not hold.
-abbrev pub array_number : Option Meant → ℕ
-array_number None = 0
-array_number (Some (meaning.Define w)) = 0
-array_number (Some (meaning.Scalar k)) = k
-array_number (Some (meaning.Array k)) = k
-array_number (Some meaning.Parameter) = 0
-
--- a name that is a value: a define is its word, and a scalar is an array's one word
+-- a name that is a value: a define is its word, and a scalar is an array's one word; any other name stands for 0
 abbrev pub name_part : Option Meant → PartForm
-name_part None = tree.number 0
 name_part (Some (meaning.Define w)) = tree.number w
 name_part (Some (meaning.Scalar k)) = tree.state k (place.Word 0)
-name_part (Some (meaning.Array k)) = tree.number 0
-name_part (Some meaning.Parameter) = tree.number 0
+name_part _ = tree.number 0
+
+-- a name with an index: an array's word there; any other name stands for 0
+abbrev pub element_part : Option Meant → Place → PartForm
+element_part (Some (meaning.Array k)) i = tree.state k i
+element_part _ i = tree.number 0
 
 -- an index: a number, a define or a packet field
 abbrev pub place_of : Scope → ExprForm → Place
@@ -58,7 +52,7 @@ abbrev mutual
   part_of scope (syntax.number p w) = tree.number w
   part_of scope (syntax.word p n) = name_part (meant scope n)
   part_of scope (syntax.field p b q f) = tree.field (field_number scope f)
-  part_of scope (syntax.index p n e) = tree.state (array_number (meant scope n)) (place_of scope e)
+  part_of scope (syntax.index p n e) = element_part (meant scope n) (place_of scope e)
   part_of scope (syntax.call p n es) = call_part (unit_named n) (parts_of scope es)
   part_of scope (syntax.un p o e) = tree.un o (part_of scope e)
   part_of scope (syntax.chain e os) = tree.chain (part_of scope e) (ops_of scope os)
@@ -72,11 +66,21 @@ abbrev mutual
   ops_of scope syntax.no_ops = tree.no_ops
   ops_of scope (syntax.op o e os) = tree.op o (part_of scope e) (ops_of scope os)
 
+-- a target that is a name: a scalar's word; any other name stands for a fresh name, which no resolved program has
+abbrev pub word_goal : Option Meant → Goal
+word_goal (Some (meaning.Scalar k)) = goal.State k (place.Word 0)
+word_goal _ = goal.Fresh 0
+
+-- a target with an index, in the same way
+abbrev pub element_goal : Option Meant → Place → Goal
+element_goal (Some (meaning.Array k)) i = goal.State k i
+element_goal _ i = goal.Fresh 0
+
 -- a target with each name as its number
 abbrev pub goal_of : Scope → TargetForm → Goal
-goal_of scope (to_word n) = goal.State (array_number (meant scope n)) (place.Word 0)
+goal_of scope (to_word n) = word_goal (meant scope n)
 goal_of scope (to_field b q f) = goal.Field (field_number scope f)
-goal_of scope (to_index n e) = goal.State (array_number (meant scope n)) (place_of scope e)
+goal_of scope (to_index n e) = element_goal (meant scope n) (place_of scope e)
 
 -- statements with each name as its number
 abbrev mutual

@@ -41,11 +41,8 @@ meant scope name = if is_param scope.param name then Some meaning.Parameter else
 
 -- the word of a define; 0 for all else
 abbrev pub define_word : Option Meant → ℕ
-define_word None = 0
 define_word (Some (meaning.Define w)) = w
-define_word (Some (meaning.Scalar k)) = 0
-define_word (Some (meaning.Array k)) = 0
-define_word (Some meaning.Parameter) = 0
+define_word _ = 0
 
 -- how many words a global has; one without brackets has one
 abbrev pub length_of : Scope → Option Length → ℕ
@@ -66,78 +63,34 @@ global_meaning k (Some l) = meaning.Array k
 
 -- the scope with one more name and what it means
 abbrev pub with_name : Scope → List ℕ → Meant → Scope
-with_name scope name m =
-    record {
-      tag = scope.tag;
-      fields = scope.fields;
-      names = scope.names ++ name ∷ [];
-      meanings = scope.meanings ++ m ∷ [];
-      arrays = scope.arrays;
-      param = scope.param;
-    }
+with_name scope name m = record scope { names = scope.names ++ name ∷ []; meanings = scope.meanings ++ m ∷ [] }
 
 -- with one more array
 abbrev pub with_array : Scope → Array → Scope
-with_array scope array =
-    record {
-      tag = scope.tag;
-      fields = scope.fields;
-      names = scope.names;
-      meanings = scope.meanings;
-      arrays = scope.arrays ++ array ∷ [];
-      param = scope.param;
-    }
+with_array scope array = record scope { arrays = scope.arrays ++ array ∷ [] }
 
 -- with the struct
 abbrev pub with_struct : Scope → List ℕ → List (List ℕ) → Scope
-with_struct scope tag fields =
-    record {
-      tag = tag;
-      fields = fields;
-      names = scope.names;
-      meanings = scope.meanings;
-      arrays = scope.arrays;
-      param = scope.param;
-    }
+with_struct scope tag fields = record scope { tag = tag; fields = fields }
 
 -- inside a transaction with this parameter
 abbrev pub with_param : Scope → List ℕ → Scope
-with_param scope param =
-    record {
-      tag = scope.tag;
-      fields = scope.fields;
-      names = scope.names;
-      meanings = scope.meanings;
-      arrays = scope.arrays;
-      param = Some param;
-    }
-
--- after the end of a transaction
-abbrev pub without_param : Scope → Scope
-without_param scope =
-    record {
-      tag = scope.tag;
-      fields = scope.fields;
-      names = scope.names;
-      meanings = scope.meanings;
-      arrays = scope.arrays;
-      param = None;
-    }
+with_param scope param = record scope { param = Some param }
 
 -- a global's own name is declared where its length and its first word are looked at
 abbrev pub with_global : Scope → List ℕ → Option Length → Scope
 with_global scope name l = with_name scope name (global_meaning (length scope.arrays) l)
 
 -- the array that a global declares
-abbrev pub array_of : Scope → List ℕ → Option Length → Option Init → Array
-array_of scope name l i = record { name = name; length = length_of scope l; init = init_of scope i }
+abbrev pub declared_array : Scope → List ℕ → Option Length → Option Init → Array
+declared_array scope name l i = record { name = name; length = length_of scope l; init = init_of scope i }
 
 -- what is declared after a head
 abbrev pub declared : Scope → Head → Scope
 declared scope (head.Define p name w) = with_name scope name (meaning.Define w)
 declared scope (head.Struct p tag fields) = with_struct scope tag (map (λ f. f.1) fields)
 declared scope (head.Global p name l i) =
-    with_array (with_global scope name l) (array_of (with_global scope name l) name l i)
+    with_array (with_global scope name l) (declared_array (with_global scope name l) name l i)
 
 -- what is declared after all heads
 abbrev pub heads_scope : List Head → Scope

@@ -22,7 +22,7 @@ use Rattle.dom_checks.specs.declared.faults.Limit.TheVariants as limit
 use Rattle.dom_checks.specs.declared.meant.Meant.{Meant}
 use Rattle.dom_checks.specs.declared.meant.Meant.TheVariants as meaning
 use Rattle.dom_checks.specs.Scope.{Scope, declared, heads_scope, length_of, meant, nothing, with_global, with_param}
-use Rattle.dom_checks.specs.Resolve.{acts_of, act_of, array_number, field_number, part_of, place_of}
+use Rattle.dom_checks.specs.Resolve.{acts_of, act_of, field_number, part_of, place_of}
 
 pub record Check : Type 0 where
   pub fault : CheckFault
@@ -47,11 +47,8 @@ name_checks scope p name =
 
 -- whether what is declared is a define
 abbrev pub is_define : Option Meant → Bool
-is_define None = false
 is_define (Some (meaning.Define w)) = true
-is_define (Some (meaning.Scalar k)) = false
-is_define (Some (meaning.Array k)) = false
-is_define (Some meaning.Parameter) = false
+is_define _ = false
 
 -- at a name that has to be a define's
 abbrev pub define_checks : Scope → ℕ → List ℕ → List Check
@@ -108,11 +105,8 @@ heads_checks scope (h ∷ hs) = head_checks scope h ++ heads_checks (declared sc
 
 -- whether what is declared is the parameter
 abbrev pub is_parameter : Option Meant → Bool
-is_parameter None = false
-is_parameter (Some (meaning.Define w)) = false
-is_parameter (Some (meaning.Scalar k)) = false
-is_parameter (Some (meaning.Array k)) = false
 is_parameter (Some meaning.Parameter) = true
+is_parameter _ = false
 
 -- at `X.f`
 abbrev pub field_checks : Scope → ℕ → List ℕ → ℕ → List ℕ → List Check
@@ -127,8 +121,7 @@ abbrev pub is_value : Bool → Option Meant → Bool
 is_value in_guard None = true
 is_value in_guard (Some (meaning.Define w)) = true
 is_value in_guard (Some (meaning.Scalar k)) = not in_guard
-is_value in_guard (Some (meaning.Array k)) = false
-is_value in_guard (Some meaning.Parameter) = false
+is_value in_guard _ = false
 
 -- at a name that is a value
 abbrev pub word_checks : Bool → Scope → ℕ → List ℕ → List Check
@@ -139,11 +132,8 @@ word_checks in_guard scope p name =
 
 -- whether what is declared is an array with an index
 abbrev pub is_array : Option Meant → Bool
-is_array None = false
-is_array (Some (meaning.Define w)) = false
-is_array (Some (meaning.Scalar k)) = false
 is_array (Some (meaning.Array k)) = true
-is_array (Some meaning.Parameter) = false
+is_array _ = false
 
 -- the offset of the first token of an expression that is no `(`
 abbrev pub first_at : ExprForm → ℕ
@@ -188,11 +178,15 @@ array_checks in_guard scope p name =
 abbrev pub mention_checks : List Mention → ℕ → Mention → List Check
 mention_checks before p m = check (fault.TwoIndexes p) (is_same_index (first_index before m.array) m.index) ∷ []
 
+-- at an array with an index, after other mentions; any other name has failed before
+abbrev pub element_checks : List Mention → ℕ → Option Meant → Place → List Check
+element_checks before p (Some (meaning.Array k)) i = mention_checks before p (mention k i)
+element_checks before p _ i = []
+
 -- at `X[e]`
 abbrev pub index_checks : Bool → Scope → List Mention → ℕ → List ℕ → ExprForm → List Check
 index_checks in_guard scope before p name e =
-    array_checks in_guard scope p name
-    ++ (place_checks scope e ++ mention_checks before p (mention (array_number (meant scope name)) (place_of scope e)))
+    array_checks in_guard scope p name ++ (place_checks scope e ++ element_checks before p (meant scope name) (place_of scope e))
 
 abbrev pub exprs_count : ExprForms → ℕ
 exprs_count no_exprs = 0
@@ -245,10 +239,8 @@ abbrev mutual
 -- whether what is declared may be a target without an index
 abbrev pub is_target : Option Meant → Bool
 is_target None = true
-is_target (Some (meaning.Define w)) = false
 is_target (Some (meaning.Scalar k)) = true
-is_target (Some (meaning.Array k)) = false
-is_target (Some meaning.Parameter) = false
+is_target _ = false
 
 -- a field may not be assigned to that is an index mentioned before
 abbrev pub kept_checks : List Mention → ℕ → ℕ → List Check

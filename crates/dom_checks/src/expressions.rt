@@ -5,9 +5,11 @@ ghost use Rattle.dom_ast.specs.inner.ExprOps as expr_ops;
 ghost use Rattle.dom_ast.specs.declared.part.Place.TheVariants as place;
 ghost use Rattle.dom_ast.specs.Resolved as tree;
 ghost use Rattle.dom_ast.specs.inner.PartOps as part_ops;
-ghost use Rattle.dom_ast.specs.Kept.{are_within, guard_visits, guard_mentions_none, mention, ops_mentions, part_mentions, parts_mentions, resolved_ranges};
-ghost use Rattle.dom_checks.specs.Answers.{AreNumbers, IsFirst, IsPlaceBelow, named};
-ghost use Rattle.dom_checks.specs.Resolve.{array_number, field_number as number_of, guard_of, name_part, ops_of, part_of, parts_of, place_of};
+ghost use Rattle.dom_ast.specs.Kept.{are_within, guard_visits, guard_mentions_none, ops_mentions, part_mentions, parts_mentions, resolved_ranges};
+ghost use Rattle.dom_checks.specs.Answers.{IsFirst};
+ghost use Rattle.dom_checks.specs.inner.Noted.{AreNumbers, IsPlaceBelow, named};
+ghost use Rattle.dom_checks.specs.declared.meant.Meant.TheVariants as meaning;
+ghost use Rattle.dom_checks.specs.Resolve.{field_number as number_of, guard_of, name_part, ops_of, part_of, parts_of, place_of};
 ghost use Rattle.dom_checks.specs.Scope.{meant};
 ghost use Rattle.dom_checks.specs.Walk.{array_checks, expr_checks, expr_mentions, exprs_checks, exprs_count, field_checks, first_at as first_token, first_fault, guard_checks, index_checks, is_same_index, mention_checks, ops_checks, place_checks, unit_checks, word_checks};
 
@@ -245,7 +247,8 @@ pub(crate) fn element(
     name: &[u8],
     index: &Expr,
 ) -> Result<Mention, CheckFault>
-    ensures mention { IfOk result (λ m. named m ≡ mention (array_number (meant scope.now name.now)) (place_of scope.now (syntax.form index.now))) }
+    ensures array { IfOk result (λ m. meant scope.now name.now ≡ Some (meaning.Array m.array)) }
+    ensures place { IfOk result (λ m. m.index ≡ place_of scope.now (syntax.form index.now)) }
     ensures holds { OnOk result (first_fault (index_checks in_guard scope.now seen.old at name.now (syntax.form index.now)) ≡ None) }
     ensures seen { IfOk result (λ m. seen.new ≡ seen.old ++ named m ∷ []) }
     ensures fault { IfErr result (λ f. IsFirst f (index_checks in_guard scope.now seen.old at name.now (syntax.form index.now))) }
@@ -261,7 +264,7 @@ pub(crate) fn element(
 
 /// Checks the name of an array, which no guard may mention.
 fn array_of(scope: &Scope, in_guard: bool, at: u32, name: &[u8]) -> Result<u32, CheckFault>
-    ensures number { IfOk result (λ k. k ≡ array_number (meant scope.now name.now)) }
+    ensures array { IfOk result (λ k. meant scope.now name.now ≡ Some (meaning.Array k)) }
     ensures below { IfOk result (λ k. k < 32) }
     ensures holds { OnOk result (first_fault (array_checks in_guard scope.now at name.now) ≡ None) }
     ensures fault { IfErr result (λ f. IsFirst f (array_checks in_guard scope.now at name.now)) }

@@ -3,7 +3,7 @@ ghost use Rattle.dom_words.specs.Names.{has_name};
 ghost use Rattle.dom_ast.specs.declared.program.Head.TheVariants as head;
 ghost use Rattle.dom_words.specs.State.{is_length, state_words};
 ghost use Rattle.dom_checks.specs.Answers.{IsFirst};
-ghost use Rattle.dom_checks.specs.Scope.{array_of, declared, define_word, heads_scope, init_of, length_of, meant, nothing, with_global};
+ghost use Rattle.dom_checks.specs.Scope.{declared, declared_array, define_word, heads_scope, init_of, length_of, meant, nothing, with_global};
 ghost use Rattle.dom_checks.specs.Walk.{define_checks, fields_checks, first_fault, global_checks, head_checks, heads_checks, init_checks, length_checks, name_checks, new_field_checks, size_checks};
 
 use crate::faults::{CheckFault, Limit};
@@ -109,7 +109,7 @@ fn array(
     brackets: &Option<Length>,
     init: &Option<Init>,
 ) -> Result<Array, CheckFault>
-    ensures array { IfOk result (λ a. a ≡ array_of (with_global scope.now name.now brackets.now) name.now brackets.now init.now) }
+    ensures array { IfOk result (λ a. a ≡ declared_array (with_global scope.now name.now brackets.now) name.now brackets.now init.now) }
     ensures size { IfOk result (λ a. is_length a.length ≡ true) }
     ensures words { IfOk result (λ a. state_words scope.now.arrays + a.length ≤ 1048576) }
     ensures holds { OnOk result (first_fault (global_checks (with_global scope.now name.now brackets.now) at brackets.now init.now) ≡ None) }

@@ -4,7 +4,8 @@ ghost use Rattle.dom_ast.specs.Form.{program_form, stmt_forms, transaction_form}
 ghost use Rattle.dom_ast.specs.PartSize.{bodies_nested, bodies_nodes};
 ghost use Rattle.dom_ast.specs.Resolved.{bodies_form, body_form};
 ghost use Rattle.dom_ast.specs.Size.{program_nested, program_nodes};
-ghost use Rattle.dom_checks.specs.Answers.{AreNumbers, IsFirst};
+ghost use Rattle.dom_checks.specs.Answers.{IsFirst};
+ghost use Rattle.dom_checks.specs.inner.Noted.{AreNumbers};
 ghost use Rattle.dom_checks.specs.Resolve.{body_of, resolved};
 ghost use Rattle.dom_checks.specs.Scope.{with_param};
 ghost use Rattle.dom_checks.specs.Verdict.{IsViolation};

@@ -2,8 +2,9 @@ ghost use Rattle.std.specs.Prelude.{◌≡◌, ◌+◌, ◌<◌, ◌≤◌, fals
 ghost use Rattle.dom_words.specs.Names.{has_name, index_of};
 ghost use Rattle.dom_words.specs.State.{are_lengths, is_length, state_words};
 ghost use Rattle.dom_checks.specs.declared.meant.Meant.TheVariants as meaning;
-ghost use Rattle.dom_checks.specs.Kept.{is_numbered};
-ghost use Rattle.dom_checks.specs.Scope.{global_meaning, is_param, meant, nothing, with_array, with_global, with_name, with_param, with_struct, without_param};
+ghost use Rattle.dom_checks.specs.inner.After.{without_param};
+ghost use Rattle.dom_checks.specs.inner.Kept.{is_numbered};
+ghost use Rattle.dom_checks.specs.Scope.{global_meaning, is_param, meant, nothing, with_array, with_global, with_name, with_param, with_struct};
 
 use crate::meant::Meant;
 use dom_ast::Length;
@@ -25,7 +26,7 @@ pub(crate) struct Scope {
 }
 
 impl Model for Scope {
-    ghost use Rattle.dom_checks.specs.Kept.{IsKept};
+    ghost use Rattle.dom_checks.specs.inner.Kept.{IsKept};
     ghost use Rattle.dom_checks.specs.Scope as scope;
 
     ghost Value = { scope.Scope };

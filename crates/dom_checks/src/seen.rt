@@ -1,6 +1,6 @@
 ghost use Rattle.std.specs.Prelude.{◌≡◌, ℕ, ◌<◌, List, ◌++◌, [], ◌∷◌, not, OnOk, OnErr, IfErr};
-ghost use Rattle.dom_ast.specs.Kept.{Mention as Named, is_no_index, mention};
-ghost use Rattle.dom_checks.specs.Answers.{AreFirsts, AreIndexes, IsPlaceBelow, named};
+ghost use Rattle.dom_ast.specs.Kept.{Mention as MentionForm, is_no_index, mention};
+ghost use Rattle.dom_checks.specs.inner.Noted.{AreFirsts, AreIndexes, IsPlaceBelow, named};
 ghost use Rattle.dom_checks.specs.Walk.{first_index};
 
 use crate::faults::CheckFault;
@@ -28,10 +28,10 @@ pub(crate) struct Seen {
 
 impl Model for Seen {
     ghost use Rattle.std.specs.Prelude.{List, map};
-    ghost use Rattle.dom_ast.specs.Kept.{Mention as Named};
-    ghost use Rattle.dom_checks.specs.Answers.{AreTables, named};
+    ghost use Rattle.dom_ast.specs.Kept.{Mention as MentionForm};
+    ghost use Rattle.dom_checks.specs.inner.Noted.{AreTables, named};
 
-    ghost Value = { List Named };
+    ghost Value = { List MentionForm };
 
     ghost view = { λ s. map named s.mentions };
 
@@ -87,7 +87,7 @@ impl Seen {
 
 fn note_first(firsts: &mut [Option<Place>; 32], mention: Mention)
     requires { mention.array < 32 }
-    ensures { (ms : List Named) → AreFirsts ms firsts.old → AreFirsts (ms ++ named mention ∷ []) firsts.new }
+    ensures { (ms : List MentionForm) → AreFirsts ms firsts.old → AreFirsts (ms ++ named mention ∷ []) firsts.new }
 {
     let array = mention.array as usize;
     match firsts[array] {
@@ -98,7 +98,7 @@ fn note_first(firsts: &mut [Option<Place>; 32], mention: Mention)
 
 fn note_index(indexes: &mut [bool; 64], mention: Mention)
     requires { IsPlaceBelow 64 mention.index }
-    ensures { (ms : List Named) → AreIndexes ms indexes.old → AreIndexes (ms ++ named mention ∷ []) indexes.new }
+    ensures { (ms : List MentionForm) → AreIndexes ms indexes.old → AreIndexes (ms ++ named mention ∷ []) indexes.new }
 {
     match mention.index {
         Place::Field(field) => indexes[field as usize] = true,

@@ -15,7 +15,7 @@ use Rattle.dom_compile.specs.declared.faults.CompileFault.{CompileFault}
 use Rattle.dom_compile.specs.Compiled.{IsListed, IsTooLong, MeansProgram, listed, naming_of}
 use Rattle.dom_compile.specs.Layers.{of_flat}
 
-module _ (program : CheckedForm) (fields : List (List ℕ)) (items : List NamedForm) (outputs : List PartForm) (same_fields : fields ≡ program.fields) (same_items : items ≡ (naming_of program).items) (same_outputs : outputs ≡ outputs_of (naming_of program)) where
+module _ (program : CheckedForm) (fields : List (List ℕ)) (items : List NamedForm) (outputs : List PartForm) (same_fields : fields ≡ program.fields) (same_items : items ≡ (naming_of program).items) (same_outputs : outputs ≡ outputs_of (length program.fields) (naming_of program)) where
   same_list : statements (length fields) items outputs ≡ listed program
   same_list = rw same_fields (rw same_items (rw same_outputs refl))
 

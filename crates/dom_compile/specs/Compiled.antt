@@ -1,9 +1,9 @@
 -- What a text compiles to, and why it does not.
-use Rattle.std.specs.Prelude.{◌≡◌, ◌<◌, ℕ, ◌+◌, List, length}
+use Rattle.std.specs.Prelude.{◌≡◌, ◌<◌, ℕ, List, length}
 use Rattle.dom_words.specs.State.{Hash, IsSmallHash, IsStateOf, Outcome}
 use Rattle.dom_ast.specs.Meaning.{one_packet}
 use Rattle.dom_ast.specs.Resolved.{CheckedForm}
-use Rattle.branch_removal.specs.Branches.{guards, ifs, straight}
+use Rattle.branch_removal.specs.Branches.{straight}
 use Rattle.state_flanks.specs.WithFlanks.{with_flanks}
 use Rattle.ssa_names.specs.Naming.{Naming, named, outputs_of}
 use Rattle.three_address.specs.Flattening.{AllFlattened}
@@ -16,12 +16,11 @@ use Rattle.dom_compile.specs.Programs.{HasCheckFault, HasLexFault, HasParseFault
 
 -- one name for each value of a resolved program: branches removed, and flanks put in
 abbrev pub naming_of : CheckedForm → Naming
-naming_of program =
-    named (length program.fields) (length program.arrays) (guards program.bodies + ifs program.bodies) (with_flanks program.arrays (straight program.bodies))
+naming_of program = named (with_flanks program.arrays (straight program.bodies))
 
 -- the statement list of a resolved program, and its outputs
 abbrev pub listed : CheckedForm → AllFlattened
-listed program = statements (length program.fields) (naming_of program).items (outputs_of (naming_of program))
+listed program = statements (length program.fields) (naming_of program).items (outputs_of (length program.fields) (naming_of program))
 
 -- a meaning of one packet and one state is that of the transactions, for every hash that answers below 2^31, every packet with
 -- a word for each field, and every state of the declared lengths

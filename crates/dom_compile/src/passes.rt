@@ -65,7 +65,7 @@ fn named(alloc: Global, program: &Checked) -> Result<Named, Memory>
     ensures fields { IfOk result (λ n. n.fields ≡ program.now.fields) }
     ensures arrays { IfOk result (λ n. n.arrays ≡ program.now.arrays) }
     ensures items { IfOk result (λ n. map named_form n.items ≡ (naming_of (checked_form program.now)).items) }
-    ensures outputs { IfOk result (λ n. map form n.outputs ≡ outputs_of (naming_of (checked_form program.now))) }
+    ensures outputs { IfOk result (λ n. map form n.outputs ≡ outputs_of (length program.now.fields) (naming_of (checked_form program.now))) }
     ensures means { IfOk result (λ n. MeansProgram (checked_form program.now) (λ hash packet state. named_outcome hash (map named_form n.items) (map form n.outputs) packet state)) }
     ensures few { IfOk result (λ n. named_nodes (map named_form n.items) (map form n.outputs) < 2 ^ 25) }
 {

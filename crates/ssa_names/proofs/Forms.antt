@@ -10,7 +10,7 @@ use Rattle.dom_ast.specs.declared.part.Part.TheViews.{Call, Chain, rolls-Call, r
 use Rattle.dom_ast.specs.declared.part.Part.TheFolds.{fold-roll-Part}
 use Rattle.dom_ast.specs.declared.part.Part.TheOpen.{Part-F}
 use Rattle.ssa_names.specs.declared.operand.Operand.TheVariants.{Field}
-use Rattle.ssa_names.specs.Naming.{first_fields}
+use Rattle.ssa_names.specs.inner.Tables.{first_fields}
 use Rattle.dom_ast.specs.Resolved.{PartForm, call, chain, form, forms, part_step}
 use Rattle.dom_ast.specs.inner.PartOps.{op_forms}
 

@@ -1,6 +1,8 @@
+pub mod Blanks
 pub mod Forms
 pub mod Kept
 pub mod Means
+pub mod Mirror
 pub mod Renamed
 pub mod Sizes
 pub mod Whole

@@ -1,5 +1,5 @@
 -- The items do what the flanks and steps do.
-use Rattle.std.proofs.Common.{◌≡◌, ℕ, zero, suc, ◌+◌, ◌<◌, ◌≤◌, Bool, true, false, ◌&&◌, nat_lt, List, [], ◌∷◌, ◌++◌, Option, Some, None, fold, length, map, replicate, slice_index, refl, sym, ap, ◌∙◌, subst, arith, get_or, set, get_or-set_other, ⊎_elim, if◌then◌else◌}
+use Rattle.std.proofs.Common.{◌≡◌, ℕ, ◌+◌, ◌<◌, ◌≤◌, Bool, true, false, ◌&&◌, nat_lt, List, [], ◌∷◌, ◌++◌, Option, Some, None, fold, length, map, slice_index, refl, sym, ap, ◌∙◌, subst, arith, get_or, set, get_or-set_other, ⊎_elim, if◌then◌else◌}
 use Rattle.std.proofs.lemmas.Bool.{and_parts, eq-eqb, ne_eqb, ltb-true, cases_eq, cases_lt}
 use Rattle.std.proofs.lemmas.List.{ext_get_or, length-set, length-map, get_or-map, get_or-set_same, get_or_past, get_or_append_left, get_or_push, length_push}
 use Rattle.std.proofs.lemmas.List.Sums.{fold_push}
@@ -19,9 +19,9 @@ use Rattle.dom_ast.specs.Resolved.{PartForm, number, field, state, fresh, made, 
 use Rattle.dom_ast.specs.Straight.{StepForm, straight_ranges}
 use Rattle.ssa_names.specs.declared.operand.Operand.{Operand}
 use Rattle.ssa_names.specs.declared.operand.Operand.TheVariants.{Number, Field, Made}
-use Rattle.ssa_names.specs.Naming.{Current, Naming, all_renamed, assigned, at, first_fields, named, named_item, named_read, named_set, named_write, operand_form, ops_renamed, outputs_of, place_operand, plain, read_at, renamed, starting}
-use Rattle.ssa_names.proofs.Within.{IsFit, are_fit, fit_at, is_fit, place_fit}
-use Rattle.ssa_names.proofs.Kept.{Goes, IsWide, Kept, goes_on, named_goes, start_goes}
+use Rattle.ssa_names.specs.Naming.{Current, Naming, all_renamed, assigned, named, named_item, named_read, named_set, named_write, operand_form, ops_renamed, outputs_of, place_operand, plain, read_at, renamed, starting, with_operand}
+use Rattle.ssa_names.proofs.Within.{IsFit, is_fit, place_fit}
+use Rattle.ssa_names.proofs.Kept.{Goes, Kept, goes_on, start_goes, with_other, with_same}
 
 -- a function with another answer at one number
 put_at : (k : ℕ) (w : ℕ) (names : ℕ → ℕ) → put k w names k ≡ w
@@ -30,18 +30,17 @@ put_at k w names = ap (λ (b : Bool). if b then w else names k) (eq-eqb k k refl
 put_other : (k j : ℕ) (w : ℕ) (names : ℕ → ℕ) → (j ≡ k → ⊥) → put k w names j ≡ names j
 put_other k j w names ne = ap (λ (b : Bool). if b then w else names j) (ne_eqb j k ne)
 
--- where a list of operands stands for names, it does so after a change of both
-put_stands : (f : Operand → ℕ) (os : List Operand) (k : ℕ) (o : Operand) (w : ℕ) (names : ℕ → ℕ)
-    → k < length os → f o ≡ w → ((j : ℕ) → f (at os j) ≡ names j)
-    → (j : ℕ) → f (at (set os k o) j) ≡ put k w names j
-put_stands f os k o w names inside is stands j = ⊎_elim same other (cases_eq j k)
+-- where operands stand for names, they do so after a change of both
+put_stands : (f : Operand → ℕ) (os : ℕ → Operand) (k : ℕ) (o : Operand) (w : ℕ) (names : ℕ → ℕ) (j : ℕ)
+    → f o ≡ w → f (os j) ≡ names j → f (with_operand k o os j) ≡ put k w names j
+put_stands f os k o w names j is stands = ⊎_elim same other (cases_eq j k)
   where
-    same : j ≡ k → f (at (set os k o) j) ≡ put k w names j
+    same : j ≡ k → f (with_operand k o os j) ≡ put k w names j
     same q =
-        subst (λ (i : ℕ). f (at (set os k o) i) ≡ put k w names i) (sym q) (ap f (get_or-set_same os k o (Number 0) inside) ∙ is ∙ sym (put_at k w names))
+        subst (λ (i : ℕ). f (with_operand k o os i) ≡ put k w names i) (sym q) (ap f (with_same k o os) ∙ is ∙ sym (put_at k w names))
 
-    other : (j ≡ k → ⊥) → f (at (set os k o) j) ≡ put k w names j
-    other ne = ap f (get_or-set_other os k j o (Number 0) ne) ∙ stands j ∙ sym (put_other k j w names ne)
+    other : (j ≡ k → ⊥) → f (with_operand k o os j) ≡ put k w names j
+    other ne = ap f (with_other k j o os ne) ∙ stands ∙ sym (put_other k j w names ne)
 
 -- a list of words with another word at one place
 put_word : (ws : List ℕ) (k w : ℕ) → k < length ws → (j : ℕ) → put k w (slice_index ws) j ≡ slice_index (set ws k w) j
@@ -77,73 +76,61 @@ module _ (hash : Hash) (packet : List ℕ) (start : List (List ℕ)) (fields arr
   word_more before values more (Made k) size e =
       ⊎_elim (λ (h : k < length before). get_or_append_left values more 0 k (omega arith)) (λ (h : length before ≤ k). absurd (let past = get_or_past before k false h in cc)) (cases_lt k (length before))
 
-  more_stands : (before : List Bool) (values more : List ℕ) (os : List Operand) (f : ℕ → ℕ)
-      → length before ≡ length values → are_fit fields arrays names before os ≡ true → ((k : ℕ) → word values (at os k) ≡ f k)
-      → (k : ℕ) → word (values ++ more) (at os k) ≡ f k
-  more_stands before values more os f size e stands k =
-      word_more before values more (at os k) size (fit_at fields arrays names before os k e) ∙ stands k
+  more_stands : (before : List Bool) (values more : List ℕ) (o : Operand) (w : ℕ)
+      → length before ≡ length values → is_fit fields arrays names before o ≡ true → word values o ≡ w → word (values ++ more) o ≡ w
+  more_stands before values more o w size e stands = word_more before values more o size e ∙ stands
 
   -- what stands for names has their words
   pub record Stands (values : List ℕ) (now : Current) (env : FlankEnv) : Type 0 where
     pub width : length env.packet ≡ fields
-    pub of_fields : (f : ℕ) → word values (at now.fields f) ≡ slice_index env.packet f
-    pub of_arrays : (a : ℕ) → word values (at now.arrays a) ≡ env.words a
-    pub of_fresh : (k : ℕ) → word values (at now.fresh k) ≡ env.fresh k
-    pub of_indexes : (a : ℕ) → word values (at now.indexes a) ≡ env.found a
+    pub of_fields : (f : ℕ) → f < fields → word values (now.fields f) ≡ slice_index env.packet f
+    pub of_arrays : (a : ℕ) → word values (now.arrays a) ≡ env.words a
+    pub of_fresh : (k : ℕ) → word values (now.fresh k) ≡ env.fresh k
+    pub of_indexes : (a : ℕ) → word values (now.indexes a) ≡ env.found a
 
   all_more : (before : List Bool) (values more : List ℕ) (now : Current) (env : FlankEnv)
       → length before ≡ length values → IsFit fields arrays names before now → Stands values now env → Stands (values ++ more) now env
   all_more before values more now env size fit s = record {
     width = s.width;
-    of_fields = more_stands before values more now.fields (slice_index env.packet) size fit.of_fields s.of_fields;
-    of_arrays = more_stands before values more now.arrays env.words size fit.of_arrays s.of_arrays;
-    of_fresh = more_stands before values more now.fresh env.fresh size fit.of_fresh s.of_fresh;
-    of_indexes = more_stands before values more now.indexes env.found size fit.of_indexes s.of_indexes;
+    of_fields = λ f inside. more_stands before values more (now.fields f) (slice_index env.packet f) size (fit.of_fields f inside) (s.of_fields f inside);
+    of_arrays = λ a. more_stands before values more (now.arrays a) (env.words a) size (fit.of_arrays a) (s.of_arrays a);
+    of_fresh = λ k. more_stands before values more (now.fresh k) (env.fresh k) size (fit.of_fresh k) (s.of_fresh k);
+    of_indexes = λ a. more_stands before values more (now.indexes a) (env.found a) size (fit.of_indexes a) (s.of_indexes a);
   }
 
-  place_stands : (values : List ℕ) (now : Current) (env : FlankEnv) (i : Place) → Stands values now env → word values (place_operand now i) ≡ place_word i env.packet
-  place_stands values now env (place.Word w) s = refl
-  place_stands values now env (place.Field f) s = s.of_fields f
+  place_stands : (values : List ℕ) (now : Current) (env : FlankEnv) (i : Place) → Stands values now env → place_within (straight_ranges fields arrays names) i ≡ true → word values (place_operand now i) ≡ place_word i env.packet
+  place_stands values now env (place.Word w) s e = refl
+  place_stands values now env (place.Field f) s e = s.of_fields f (ltb-true f fields e)
 
   -- an assignment
   assigned_stands : (values : List ℕ) (now : Current) (env : FlankEnv) (g : Goal) (o : Operand) (w : ℕ)
-      → IsWide fields arrays names now → goal_within (straight_ranges fields arrays names) g ≡ true → word values o ≡ w
+      → goal_within (straight_ranges fields arrays names) g ≡ true → word values o ≡ w
       → Stands values now env → Stands values (assigned g o now) (flank_assigned g w env)
-  assigned_stands values now env (goal.Field f) o w wide inside is s =
+  assigned_stands values now env (goal.Field f) o w inside is s =
       let small = ltb-true f fields inside in
-      let width = wide.of_fields in
-      let in_now : f < length now.fields = omega arith in
       let size = s.width in
       let in_packet : f < length env.packet = omega arith in
       record {
         width = length-set env.packet f w ∙ s.width;
-        of_fields = λ j. put_stands (word values) now.fields f o w (slice_index env.packet) in_now is s.of_fields j ∙ put_word env.packet f w in_packet j;
+        of_fields = λ j within. put_stands (word values) now.fields f o w (slice_index env.packet) j is (s.of_fields j within) ∙ put_word env.packet f w in_packet j;
         of_arrays = s.of_arrays;
         of_fresh = s.of_fresh;
         of_indexes = s.of_indexes;
       }
-  assigned_stands values now env (goal.State a i) o w wide inside is s =
-      let small = ltb-true a arrays (and_parts (nat_lt a arrays) (place_within (straight_ranges fields arrays names) i) inside).0 in
-      let width = wide.of_arrays in
-      let in_now : a < length now.arrays = omega arith in
-      record {
-        width = s.width;
-        of_fields = s.of_fields;
-        of_arrays = put_stands (word values) now.arrays a o w env.words in_now is s.of_arrays;
-        of_fresh = s.of_fresh;
-        of_indexes = s.of_indexes;
-      }
-  assigned_stands values now env (goal.Fresh k) o w wide inside is s =
-      let small = ltb-true k names inside in
-      let width = wide.of_fresh in
-      let in_now : k < length now.fresh = omega arith in
-      record {
-        width = s.width;
-        of_fields = s.of_fields;
-        of_arrays = s.of_arrays;
-        of_fresh = put_stands (word values) now.fresh k o w env.fresh in_now is s.of_fresh;
-        of_indexes = s.of_indexes;
-      }
+  assigned_stands values now env (goal.State a i) o w inside is s = record {
+    width = s.width;
+    of_fields = s.of_fields;
+    of_arrays = λ j. put_stands (word values) now.arrays a o w env.words j is (s.of_arrays j);
+    of_fresh = s.of_fresh;
+    of_indexes = s.of_indexes;
+  }
+  assigned_stands values now env (goal.Fresh k) o w inside is s = record {
+    width = s.width;
+    of_fields = s.of_fields;
+    of_arrays = s.of_arrays;
+    of_fresh = λ j. put_stands (word values) now.fresh k o w env.fresh j is (s.of_fresh j);
+    of_indexes = s.of_indexes;
+  }
 
   -- expressions have the same words
   module _ (before : NamedEnv) (now : Current) (env : FlankEnv) (s : Stands before.made now env) where
@@ -156,9 +143,9 @@ module _ (hash : Hash) (packet : List ℕ) (start : List (List ℕ)) (fields arr
     mutual
       pub renamed_value : (p : PartForm) → part_within (straight_ranges fields arrays names) p ≡ true → value hash named_in (renamed now p) ≡ value hash (flank_names env) p
       renamed_value (number w) e = refl
-      renamed_value (field f) e = operand_says (at now.fields f) (slice_index env.packet f) (s.of_fields f)
-      renamed_value (state a i) e = operand_says (at now.arrays a) (env.words a) (s.of_arrays a)
-      renamed_value (fresh k) e = operand_says (at now.fresh k) (env.fresh k) (s.of_fresh k)
+      renamed_value (field f) e = operand_says (now.fields f) (slice_index env.packet f) (s.of_fields f (ltb-true f fields e))
+      renamed_value (state a i) e = operand_says (now.arrays a) (env.words a) (s.of_arrays a)
+      renamed_value (fresh k) e = operand_says (now.fresh k) (env.fresh k) (s.of_fresh k)
       renamed_value (made k) e = absurd (cc)
       renamed_value (call unit ps) e =
           ap (hash unit) (renamed_values ps (and_parts _ (parts_within (straight_ranges fields arrays names) ps) e).1)
@@ -190,9 +177,9 @@ module _ (hash : Hash) (packet : List ℕ) (start : List (List ℕ)) (fields arr
     -- a literal or a name has the word of what it stands for
     pub plain_value : (p : PartForm) (o : Operand) → part_within (straight_ranges fields arrays names) p ≡ true → plain now p ≡ Some o → word before.made o ≡ value hash (flank_names env) p
     plain_value (number w) o e q = let is : Number w ≡ o = cc in ap (word before.made) (sym is)
-    plain_value (field f) o e q = let is : at now.fields f ≡ o = cc in ap (word before.made) (sym is) ∙ s.of_fields f
-    plain_value (state a i) o e q = let is : at now.arrays a ≡ o = cc in ap (word before.made) (sym is) ∙ s.of_arrays a
-    plain_value (fresh k) o e q = let is : at now.fresh k ≡ o = cc in ap (word before.made) (sym is) ∙ s.of_fresh k
+    plain_value (field f) o e q = let is : now.fields f ≡ o = cc in ap (word before.made) (sym is) ∙ s.of_fields f (ltb-true f fields e)
+    plain_value (state a i) o e q = let is : now.arrays a ≡ o = cc in ap (word before.made) (sym is) ∙ s.of_arrays a
+    plain_value (fresh k) o e q = let is : now.fresh k ≡ o = cc in ap (word before.made) (sym is) ∙ s.of_fresh k
     plain_value (made k) o e q = absurd (cc)
     plain_value (call unit ps) o e q = absurd (cc)
     plain_value (un u p) o e q = absurd (cc)
@@ -228,10 +215,10 @@ module _ (hash : Hash) (packet : List ℕ) (start : List (List ℕ)) (fields arr
   same_arrays (goal.State a i) w env = refl
   same_arrays (goal.Fresh k) w env = refl
 
-  agrees_read : (n : Naming) (env : FlankEnv) (a : ℕ) (i : Place) → IsFit fields arrays names (makes_of n.items) n.now → IsWide fields arrays names n.now
-      → nat_lt a arrays ≡ true → Agrees n env
+  agrees_read : (n : Naming) (env : FlankEnv) (a : ℕ) (i : Place) → IsFit fields arrays names (makes_of n.items) n.now
+      → place_within (straight_ranges fields arrays names) i ≡ true → Agrees n env
       → Agrees (named_read n a (place_operand n.now i)) (flanked hash env (flank.read a i))
-  agrees_read n env a i fit wide inside g =
+  agrees_read n env a i fit inside g =
       agrees_from (named_read n a o) (flanked hash env (flank.read a i)) (record { arrays = env.arrays; made = e.made ++ w ∷ [] }) is (makes_size n env (read a (operand_form o)) w g) refl stands
     where
       o : Operand
@@ -247,7 +234,7 @@ module _ (hash : Hash) (packet : List ℕ) (start : List (List ℕ)) (fields arr
       w = fetched env.arrays a v
 
       says : named_value hash packet e (operand_form o) ≡ v
-      says = word_value e o ∙ place_stands e.made n.now env i g.stands
+      says = word_value e o ∙ place_stands e.made n.now env i g.stands inside
 
       is : after (n.items ++ read a (operand_form o) ∷ []) ≡ record { arrays = env.arrays; made = e.made ++ w ∷ [] }
       is =
@@ -255,35 +242,32 @@ module _ (hash : Hash) (packet : List ℕ) (start : List (List ℕ)) (fields arr
           ∙ ap (λ (x : ℕ). record { arrays = e.arrays; made = e.made ++ fetched e.arrays a x ∷ [] }) says
           ∙ ap (λ (x : List (List ℕ)). record { arrays = x; made = e.made ++ fetched x a v ∷ [] }) g.state
 
-      small : a < arrays
-      small = ltb-true a arrays inside
-
       more : Stands (e.made ++ w ∷ []) n.now env
       more = all_more (makes_of n.items) e.made (w ∷ []) n.now env g.size fit g.stands
 
       index_word : word (e.made ++ w ∷ []) o ≡ v
       index_word =
-          word_more (makes_of n.items) e.made (w ∷ []) o g.size (place_fit fields arrays names (makes_of n.items) i n.now fit) ∙ place_stands e.made n.now env i g.stands
+          word_more (makes_of n.items) e.made (w ∷ []) o g.size (place_fit fields arrays names (makes_of n.items) i n.now fit inside) ∙ place_stands e.made n.now env i g.stands inside
 
       stands : Stands (e.made ++ w ∷ []) (read_at a o (Made (length n.items)) n.now) (flanked hash env (flank.read a i))
       stands = record {
         width = more.width;
         of_fields = more.of_fields;
-        of_arrays = put_stands (word (e.made ++ w ∷ [])) n.now.arrays a (Made (length n.items)) w env.words (let x = wide.of_arrays in let y = small in omega arith) (last_word n env w g) more.of_arrays;
+        of_arrays = λ j. put_stands (word (e.made ++ w ∷ [])) n.now.arrays a (Made (length n.items)) w env.words j (last_word n env w g) (more.of_arrays j);
         of_fresh = more.of_fresh;
-        of_indexes = put_stands (word (e.made ++ w ∷ [])) n.now.indexes a o v env.found (let x = wide.of_indexes in let y = small in omega arith) index_word more.of_indexes;
+        of_indexes = λ j. put_stands (word (e.made ++ w ∷ [])) n.now.indexes a o v env.found j index_word (more.of_indexes j);
       }
 
-  agrees_set : (n : Naming) (env : FlankEnv) (s : StepForm) (r : Option Operand) → IsFit fields arrays names (makes_of n.items) n.now → IsWide fields arrays names n.now
+  agrees_set : (n : Naming) (env : FlankEnv) (s : StepForm) (r : Option Operand) → IsFit fields arrays names (makes_of n.items) n.now
       → part_within (straight_ranges fields arrays names) s.value ≡ true → goal_within (straight_ranges fields arrays names) s.target ≡ true
       → plain n.now s.value ≡ r → Agrees n env
       → Agrees (named_set n s r) (flanked hash env (flank.set s))
-  agrees_set n env s (Some o) fit wide inside target is g = record {
+  agrees_set n env s (Some o) fit inside target is g = record {
     size = g.size;
     state = g.state ∙ sym (same_arrays s.target (value hash (flank_names env) s.value) env);
-    stands = assigned_stands (after n.items).made n.now env s.target o (value hash (flank_names env) s.value) wide target (plain_value (after n.items) n.now env g.stands s.value o inside is) g.stands;
+    stands = assigned_stands (after n.items).made n.now env s.target o (value hash (flank_names env) s.value) target (plain_value (after n.items) n.now env g.stands s.value o inside is) g.stands;
   }
-  agrees_set n env s None fit wide inside target plain_is g =
+  agrees_set n env s None fit inside target plain_is g =
       agrees_from (named_set n s None) (flanked hash env (flank.set s)) (record { arrays = e.arrays; made = e.made ++ w ∷ [] }) is (makes_size n env (make (renamed n.now s.value)) w g) (g.state ∙ sym (same_arrays s.target w env)) stands
     where
       e : NamedEnv
@@ -299,7 +283,7 @@ module _ (hash : Hash) (packet : List ℕ) (start : List (List ℕ)) (fields arr
 
       stands : Stands (e.made ++ w ∷ []) (assigned s.target (Made (length n.items)) n.now) (flank_assigned s.target w env)
       stands =
-          assigned_stands (e.made ++ w ∷ []) n.now env s.target (Made (length n.items)) w wide target (last_word n env w g) (all_more (makes_of n.items) e.made (w ∷ []) n.now env g.size fit g.stands)
+          assigned_stands (e.made ++ w ∷ []) n.now env s.target (Made (length n.items)) w target (last_word n env w g) (all_more (makes_of n.items) e.made (w ∷ []) n.now env g.size fit g.stands)
 
   agrees_write : (n : Naming) (env : FlankEnv) (a : ℕ) (i : Place) → IsFit fields arrays names (makes_of n.items) n.now
       → Agrees n env → Agrees (named_write n a) (flanked hash env (flank.write a i))
@@ -310,13 +294,13 @@ module _ (hash : Hash) (packet : List ℕ) (start : List (List ℕ)) (fields arr
       e = after n.items
 
       x : NamedForm
-      x = write a (operand_form (at n.now.indexes a)) (operand_form (at n.now.arrays a))
+      x = write a (operand_form (n.now.indexes a)) (operand_form (n.now.arrays a))
 
       is : after (n.items ++ x ∷ []) ≡ record { arrays = stored env.arrays a (env.found a) (env.words a); made = e.made ++ 0 ∷ [] }
       is =
           step_more n.items x
-          ∙ ap (λ (y : ℕ). record { arrays = stored e.arrays a y (named_value hash packet e (operand_form (at n.now.arrays a))); made = e.made ++ 0 ∷ [] }) (word_value e (at n.now.indexes a) ∙ g.stands.of_indexes a)
-          ∙ ap (λ (y : ℕ). record { arrays = stored e.arrays a (env.found a) y; made = e.made ++ 0 ∷ [] }) (word_value e (at n.now.arrays a) ∙ g.stands.of_arrays a)
+          ∙ ap (λ (y : ℕ). record { arrays = stored e.arrays a y (named_value hash packet e (operand_form (n.now.arrays a))); made = e.made ++ 0 ∷ [] }) (word_value e (n.now.indexes a) ∙ g.stands.of_indexes a)
+          ∙ ap (λ (y : ℕ). record { arrays = stored e.arrays a (env.found a) y; made = e.made ++ 0 ∷ [] }) (word_value e (n.now.arrays a) ∙ g.stands.of_arrays a)
           ∙ ap (λ (y : List (List ℕ)). record { arrays = stored y a (env.found a) (env.words a); made = e.made ++ 0 ∷ [] }) g.state
 
       more : Stands (e.made ++ 0 ∷ []) n.now env
@@ -328,10 +312,10 @@ module _ (hash : Hash) (packet : List ℕ) (start : List (List ℕ)) (fields arr
   agrees_on : (n : Naming) (env : FlankEnv) (x : FlankForm) (found : List Mention) (left : List ℕ) → Kept fields arrays names n found left
       → flank_within (straight_ranges fields arrays names) x ≡ true → Agrees n env → Agrees (named_item n x) (flanked hash env x)
   agrees_on n env (flank.read a i) found left k inside g =
-      agrees_read n env a i k.fit k.wide (and_parts (nat_lt a arrays) (place_within (straight_ranges fields arrays names) i) inside).0 g
+      agrees_read n env a i k.fit (and_parts (nat_lt a arrays) (place_within (straight_ranges fields arrays names) i) inside).1 g
   agrees_on n env (flank.set s) found left k inside g =
       let q = and_parts (part_within (straight_ranges fields arrays names) s.value) (target_within (straight_ranges fields arrays names) (Some s.target)) inside in
-      agrees_set n env s (plain n.now s.value) k.fit k.wide q.0 q.1 refl g
+      agrees_set n env s (plain n.now s.value) k.fit q.0 q.1 refl g
   agrees_on n env (flank.write a i) found left k inside g = agrees_write n env a i k.fit g
 
   all_agree : (n : Naming) (env : FlankEnv) (xs : List FlankForm) → Goes fields arrays names n xs → flanks_within (straight_ranges fields arrays names) xs ≡ true
@@ -341,53 +325,46 @@ module _ (hash : Hash) (packet : List ℕ) (start : List (List ℕ)) (fields arr
       let q = and_parts (flank_within (straight_ranges fields arrays names) x) (flanks_within (straight_ranges fields arrays names) xs) inside in
       all_agree (named_item n x) (flanked hash env x) xs (goes_on fields arrays names n x xs goes q.0) q.1 (agrees_on n env x goes.found goes.left goes.kept q.0 g)
 
-  zeros_at : (n k : ℕ) → at (replicate n (Number 0)) k ≡ Number 0
-  zeros_at zero k = refl
-  zeros_at (suc n) zero = refl
-  zeros_at (suc n) (suc k) = zeros_at n k
-
-  start_agrees : length packet ≡ fields → Agrees (record { now = starting fields arrays names; items = [] }) (flank_entering packet start)
+  start_agrees : length packet ≡ fields → Agrees (record { now = starting; items = [] }) (flank_entering packet start)
   start_agrees size = record {
     size = refl;
     state = refl;
-    stands = record {
-      width = size;
-      of_fields = field_at;
-      of_arrays = λ a. ap (word []) (zeros_at arrays a);
-      of_fresh = λ k. ap (word []) (zeros_at names k);
-      of_indexes = λ a. ap (word []) (zeros_at arrays a);
-    };
+    stands = record { width = size; of_fields = λ f inside. refl; of_arrays = λ a. refl; of_fresh = λ k. refl; of_indexes = λ a. refl };
   }
-    where
-      field_at : (f : ℕ) → word [] (at (first_fields fields) f) ≡ slice_index packet f
-      field_at f =
-          ⊎_elim (λ (h : f < fields). ap (word []) (get_or-map-range_with_len Field 0 fields f f (Number 0) h (omega arith))) (λ (h : fields ≤ f). ap (word []) (get_or_past (first_fields fields) f (Number 0) (let n = length-map-range_with_len Field 0 fields in omega arith)) ∙ sym (get_or_past packet f 0 (omega arith))) (cases_lt f fields)
 
-  outputs_are : (n : Naming) (env : FlankEnv) → IsWide fields arrays names n.now → Agrees n env → map (named_value hash packet (after n.items)) (outputs_of n) ≡ env.packet
-  outputs_are n env wide g =
-      ext_get_or 0 (map (named_value hash packet e) (outputs_of n)) env.packet (length-map (outputs_of n) (named_value hash packet e) ∙ length-map n.now.fields operand_form ∙ wide.of_fields ∙ sym g.stands.width) each
+  outputs_are : (n : Naming) (env : FlankEnv) → Agrees n env → map (named_value hash packet (after n.items)) (outputs_of fields n) ≡ env.packet
+  outputs_are n env g =
+      ext_get_or 0 (map (named_value hash packet e) outputs) env.packet (long ∙ sym g.stands.width) each
     where
       e : NamedEnv
       e = after n.items
 
-      each : (f : ℕ) → f < length (map (named_value hash packet e) (outputs_of n)) → get_or (map (named_value hash packet e) (outputs_of n)) f 0 ≡ get_or env.packet f 0
+      outputs : List PartForm
+      outputs = outputs_of fields n
+
+      width : length outputs ≡ fields
+      width = length-map-range_with_len (λ f. operand_form (n.now.fields f)) 0 fields
+
+      long : length (map (named_value hash packet e) outputs) ≡ fields
+      long = length-map outputs (named_value hash packet e) ∙ width
+
+      each : (f : ℕ) → f < length (map (named_value hash packet e) outputs) → get_or (map (named_value hash packet e) outputs) f 0 ≡ get_or env.packet f 0
       each f h =
-          let size : length (map (named_value hash packet e) (outputs_of n)) ≡ length (outputs_of n) = length-map (outputs_of n) (named_value hash packet e) in
-          let width : length (outputs_of n) ≡ length n.now.fields = length-map n.now.fields operand_form in
-          let in_outputs : f < length (outputs_of n) = omega arith in
-          let in_fields : f < length n.now.fields = omega arith in
-          get_or-map (named_value hash packet e) (outputs_of n) f (operand_form (Number 0)) 0 in_outputs
-          ∙ ap (named_value hash packet e) (get_or-map operand_form n.now.fields f (Number 0) (operand_form (Number 0)) in_fields)
-          ∙ word_value e (at n.now.fields f)
-          ∙ g.stands.of_fields f
+          let size = long in
+          let same = width in
+          let in_fields : f < fields = omega arith in
+          let in_outputs : f < length outputs = omega arith in
+          get_or-map (named_value hash packet e) outputs f (number 0) 0 in_outputs
+          ∙ ap (named_value hash packet e) (get_or-map-range_with_len (λ k. operand_form (n.now.fields k)) 0 fields f f (number 0) in_fields (omega arith))
+          ∙ word_value e (n.now.fields f)
+          ∙ g.stands.of_fields f in_fields
 
   -- what items and outputs make of a packet and a state is what the flanks and steps make
   pub named_means : (xs : List FlankForm) → are_flanked [] [] xs ≡ true → flanks_within (straight_ranges fields arrays names) xs ≡ true → length packet ≡ fields
-      → named_outcome hash (named fields arrays names xs).items (outputs_of (named fields arrays names xs)) packet start ≡ flanked_outcome hash xs packet start
+      → named_outcome hash (named xs).items (outputs_of fields (named xs)) packet start ≡ flanked_outcome hash xs packet start
   named_means xs flanks inside size =
-      let n = named fields arrays names xs in
+      let n = named xs in
       let env = all_flanked hash (flank_entering packet start) xs in
-      let goes = named_goes fields arrays names xs flanks inside in
-      let g : Agrees n env = all_agree (record { now = starting fields arrays names; items = [] }) (flank_entering packet start) xs (start_goes fields arrays names xs flanks) inside (start_agrees size) in
-      ap (λ (ws : List ℕ). record { packet = ws; arrays = (after n.items).arrays }) (outputs_are n env goes.kept.wide g)
+      let g : Agrees n env = all_agree (record { now = starting; items = [] }) (flank_entering packet start) xs (start_goes fields arrays names xs flanks) inside (start_agrees size) in
+      ap (λ (ws : List ℕ). record { packet = ws; arrays = (after n.items).arrays }) (outputs_are n env g)
       ∙ ap (λ (ws : List (List ℕ)). record { packet = env.packet; arrays = ws }) g.state

@@ -1,5 +1,6 @@
 -- How many items and expression nodes there are.
-use Rattle.std.proofs.Common.{◌≡◌, ℕ, suc, ◌+◌, ◌*◌, ◌^◌, ◌<◌, ◌≤◌, List, [], ◌∷◌, ◌++◌, Option, Some, None, fold, length, map, sum, refl, ap, ◌∙◌, arith}
+use Rattle.std.proofs.Common.{◌≡◌, ℕ, zero, suc, ◌+◌, ◌*◌, ◌^◌, ◌<◌, ◌≤◌, List, [], ◌∷◌, ◌++◌, Option, Some, None, fold, length, map, sum, refl, ap, ◌∙◌, arith}
+use Rattle.std.specs.List.{range_with_len}
 use Rattle.std.proofs.lemmas.List.{map-append}
 use Rattle.std.proofs.lemmas.List.Sums.{sum_by-cons, sum_by_push}
 use Rattle.dom_ast.specs.Flanks.{FlankForm, flank_nodes, flanks_nodes}
@@ -10,7 +11,7 @@ use Rattle.dom_ast.specs.Resolved.{PartForm, number, field, state, fresh, made, 
 use Rattle.dom_ast.specs.Straight.{StepForm}
 use Rattle.ssa_names.specs.declared.operand.Operand.{Operand}
 use Rattle.ssa_names.specs.declared.operand.Operand.TheVariants.{Number, Field, Made}
-use Rattle.ssa_names.specs.Naming.{Current, Naming, all_renamed, at, named, named_item, named_set, operand_form, ops_renamed, outputs_of, place_operand, plain, renamed, starting}
+use Rattle.ssa_names.specs.Naming.{Current, Naming, all_renamed, named, named_item, named_set, operand_form, ops_renamed, outputs_of, place_operand, plain, renamed, starting}
 
 one_node : (o : Operand) → part_nodes (operand_form o) ≡ 1
 one_node (Number w) = refl
@@ -20,9 +21,9 @@ one_node (Made k) = refl
 mutual
   pub renamed_nodes : (now : Current) (p : PartForm) → part_nodes (renamed now p) ≡ part_nodes p
   renamed_nodes now (number w) = refl
-  renamed_nodes now (field f) = one_node (at now.fields f)
-  renamed_nodes now (state a i) = one_node (at now.arrays a)
-  renamed_nodes now (fresh k) = one_node (at now.fresh k)
+  renamed_nodes now (field f) = one_node (now.fields f)
+  renamed_nodes now (state a i) = one_node (now.arrays a)
+  renamed_nodes now (fresh k) = one_node (now.fresh k)
   renamed_nodes now (made k) = refl
   renamed_nodes now (call unit ps) = ap suc (all_renamed_nodes now ps)
   renamed_nodes now (un u p) = ap suc (renamed_nodes now p)
@@ -57,8 +58,8 @@ nodes_step n (flank.read a i) =
     let p = nodes_push n.items (read a (operand_form o)) in let q = one_node o in omega arith
 nodes_step n (flank.set s) = let p = set_nodes n s (plain n.now s.value) in omega arith
 nodes_step n (flank.write a i) =
-    let x = at n.now.indexes a in
-    let y = at n.now.arrays a in
+    let x = n.now.indexes a in
+    let y = n.now.arrays a in
     let p = nodes_push n.items (write a (operand_form x) (operand_form y)) in
     let q = one_node x in
     let r = one_node y in
@@ -72,12 +73,13 @@ all_nodes n (x ∷ xs) =
     let r : flanks_nodes (x ∷ xs) ≡ flank_nodes x + flanks_nodes xs = sum_by-cons (λ (k : ℕ). k) (flank_nodes x) (map flank_nodes xs) in
     omega arith
 
-output_nodes : (os : List Operand) → sum (map part_nodes (map operand_form os)) ≡ length os
-output_nodes [] = refl
-output_nodes (o ∷ os) =
-    let p = output_nodes os in
-    let q = one_node o in
-    let r : sum (map part_nodes (map operand_form (o ∷ os))) ≡ part_nodes (operand_form o) + sum (map part_nodes (map operand_form os)) = sum_by-cons (λ (k : ℕ). k) (part_nodes (operand_form o)) (map part_nodes (map operand_form os)) in
+output_nodes : (g : ℕ → Operand) (k n : ℕ) → sum (map part_nodes (map (λ f. operand_form (g f)) (range_with_len k n))) ≡ n
+output_nodes g k zero = refl
+output_nodes g k (suc n) =
+    let p = output_nodes g (k + 1) n in
+    let q = one_node (g k) in
+    let rest = map part_nodes (map (λ f. operand_form (g f)) (range_with_len (k + 1) n)) in
+    let r : sum (part_nodes (operand_form (g k)) ∷ rest) ≡ part_nodes (operand_form (g k)) + sum rest = sum_by-cons (λ (m : ℕ). m) (part_nodes (operand_form (g k))) rest in
     omega arith
 
 one_flank_node : (x : FlankForm) → 1 ≤ flank_nodes x
@@ -95,10 +97,9 @@ few_flanks (x ∷ xs) =
     omega arith
 
 -- the nodes of the items and the outputs
-pub named_few : (fields arrays names : ℕ) (xs : List FlankForm) → flanks_nodes xs < 2 ^ 23 → fields ≤ 64 → length (named fields arrays names xs).now.fields ≡ fields
-    → named_nodes (named fields arrays names xs).items (outputs_of (named fields arrays names xs)) < 2 ^ 25
-named_few fields arrays names xs few small width =
-    let n = named fields arrays names xs in
-    let p : nodes_of n.items ≤ 0 + 3 * flanks_nodes xs = all_nodes (record { now = starting fields arrays names; items = [] }) xs in
-    let q = output_nodes n.now.fields in
+pub named_few : (fields : ℕ) (xs : List FlankForm) → flanks_nodes xs < 2 ^ 23 → fields ≤ 64 → named_nodes (named xs).items (outputs_of fields (named xs)) < 2 ^ 25
+named_few fields xs few small =
+    let n = named xs in
+    let p : nodes_of n.items ≤ 0 + 3 * flanks_nodes xs = all_nodes (record { now = starting; items = [] }) xs in
+    let q = output_nodes n.now.fields 0 fields in
     omega arith

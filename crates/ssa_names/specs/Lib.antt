@@ -1,2 +1,3 @@
+pub mod Blanked
 pub mod Naming
-pub mod Tables
+pub mod inner

@@ -1,6 +1,6 @@
 -- One name for each value: a walk through the flanks and steps that keeps what stands for each name, and makes an item for
 -- each value.
-use Rattle.std.specs.Prelude.{ℕ, List, [], ◌∷◌, ◌++◌, Option, Some, None, fold, length, map, replicate, slice_index_or, slice_set}
+use Rattle.std.specs.Prelude.{ℕ, ◌==◌, List, [], ◌∷◌, ◌++◌, Option, Some, None, fold, if◌then◌else◌, length, map}
 use Rattle.std.specs.List.{range_with_len}
 use Rattle.dom_ast.specs.declared.part.Goal.{Goal}
 use Rattle.dom_ast.specs.declared.part.Goal.TheVariants as goal
@@ -22,44 +22,41 @@ operand_form (Made k) = made k
 
 -- What stands at a moment for each field, each array and each fresh name, and for the index at which each array was read.
 pub record Current : Type 0 where
-  pub fields : List Operand
-  pub arrays : List Operand
-  pub fresh : List Operand
-  pub indexes : List Operand
+  pub fields : ℕ → Operand
+  pub arrays : ℕ → Operand
+  pub fresh : ℕ → Operand
+  pub indexes : ℕ → Operand
 
 -- the items so far, and what stands for each name then
 pub record Naming : Type 0 where
   pub now : Current
   pub items : List NamedForm
 
--- what stands for name k; the number 0 where there is none
-abbrev pub at : List Operand → ℕ → Operand
-at operands k = slice_index_or operands k (Number 0)
+-- operands with another one at number k
+abbrev pub with_operand : ℕ → Operand → (ℕ → Operand) → ℕ → Operand
+with_operand k o operands j = if j == k then o else operands j
 
 -- what stands for an index
 abbrev pub place_operand : Current → Place → Operand
 place_operand now (place.Word w) = Number w
-place_operand now (place.Field f) = at now.fields f
+place_operand now (place.Field f) = now.fields f
 
 -- what a literal or a name stands for; every other expression stands for nothing yet
 abbrev pub plain : Current → PartForm → Option Operand
 plain now (number w) = Some (Number w)
-plain now (field f) = Some (at now.fields f)
-plain now (state a i) = Some (at now.arrays a)
-plain now (fresh k) = Some (at now.fresh k)
+plain now (field f) = Some (now.fields f)
+plain now (state a i) = Some (now.arrays a)
+plain now (fresh k) = Some (now.fresh k)
 plain now (made k) = Some (Made k)
-plain now (call unit ps) = None
-plain now (un o p) = None
-plain now (chain p os) = None
-plain now (choice c p q) = None
+plain now _ = None
 
 -- an expression with what stands for its names in their places
 abbrev mutual
   pub renamed : Current → PartForm → PartForm
   renamed now (number w) = number w
-  renamed now (field f) = operand_form (at now.fields f)
-  renamed now (state a i) = operand_form (at now.arrays a)
-  renamed now (fresh k) = operand_form (at now.fresh k)
+  renamed now (field f) = operand_form (now.fields f)
+  renamed now (state a i) = operand_form (now.arrays a)
+  renamed now (fresh k) = operand_form (now.fresh k)
   renamed now (made k) = made k
   renamed now (call unit ps) = call unit (all_renamed now ps)
   renamed now (un o p) = un o (renamed now p)
@@ -76,21 +73,13 @@ abbrev mutual
 
 -- an operand stands for a target from now on
 abbrev pub assigned : Goal → Operand → Current → Current
-assigned (goal.Field f) o now =
-    record { fields = slice_set now.fields f o; arrays = now.arrays; fresh = now.fresh; indexes = now.indexes }
-assigned (goal.State a i) o now =
-    record { fields = now.fields; arrays = slice_set now.arrays a o; fresh = now.fresh; indexes = now.indexes }
-assigned (goal.Fresh k) o now =
-    record { fields = now.fields; arrays = now.arrays; fresh = slice_set now.fresh k o; indexes = now.indexes }
+assigned (goal.Field f) o now = record now { fields = with_operand f o now.fields }
+assigned (goal.State a i) o now = record now { arrays = with_operand a o now.arrays }
+assigned (goal.Fresh k) o now = record now { fresh = with_operand k o now.fresh }
 
 -- an operand stands for the word of an array that is read at an index
 abbrev pub read_at : ℕ → Operand → Operand → Current → Current
-read_at a i o now = record {
-  fields = now.fields;
-  arrays = slice_set now.arrays a o;
-  fresh = now.fresh;
-  indexes = slice_set now.indexes a i;
-}
+read_at a i o now = record now { arrays = with_operand a o now.arrays; indexes = with_operand a i now.indexes }
 
 -- a read flank makes a value of its index's operand
 abbrev pub named_read : Naming → ℕ → Operand → Naming
@@ -101,7 +90,7 @@ named_read n a i = record {
 
 -- a step whose value is a literal or a name is a copy and makes no item; every other step makes a value
 abbrev pub named_set : Naming → StepForm → Option Operand → Naming
-named_set n s (Some o) = record { now = assigned s.target o n.now; items = n.items }
+named_set n s (Some o) = record n { now = assigned s.target o n.now }
 named_set n s None = record {
   now = assigned s.target (Made (length n.items)) n.now;
   items = n.items ++ make (renamed n.now s.value) ∷ [];
@@ -109,10 +98,7 @@ named_set n s None = record {
 
 -- a write flank has the read flank's index, and writes what stands for the array
 abbrev pub named_write : Naming → ℕ → Naming
-named_write n a = record {
-  now = n.now;
-  items = n.items ++ write a (operand_form (at n.now.indexes a)) (operand_form (at n.now.arrays a)) ∷ [];
-}
+named_write n a = record n { items = n.items ++ write a (operand_form (n.now.indexes a)) (operand_form (n.now.arrays a)) ∷ [] }
 
 -- one flank or step more
 abbrev pub named_item : Naming → FlankForm → Naming
@@ -120,23 +106,14 @@ named_item n (flank.read a i) = named_read n a (place_operand n.now i)
 named_item n (flank.set s) = named_set n s (plain n.now s.value)
 named_item n (flank.write a i) = named_write n a
 
--- each entered field stands for itself
-abbrev pub first_fields : ℕ → List Operand
-first_fields fields = map Field (range_with_len 0 fields)
+-- at the start the entered value of each field stands for it, and the number 0 for all else
+abbrev pub starting : Current
+starting = record { fields = Field; arrays = λ a. Number 0; fresh = λ k. Number 0; indexes = λ a. Number 0 }
 
--- a field starts with its entered value, and all else with the number 0
-abbrev pub starting : ℕ → ℕ → ℕ → Current
-starting fields arrays names = record {
-  fields = first_fields fields;
-  arrays = replicate arrays (Number 0);
-  fresh = replicate names (Number 0);
-  indexes = replicate arrays (Number 0);
-}
+-- the items of a list of steps between flanks
+abbrev pub named : List FlankForm → Naming
+named items = fold named_item (record { now = starting; items = [] }) items
 
--- the items of a list of steps between flanks, over so many fields, arrays and fresh names
-abbrev pub named : ℕ → ℕ → ℕ → List FlankForm → Naming
-named fields arrays names items = fold named_item (record { now = starting fields arrays names; items = [] }) items
-
--- what stands for the fields at the end
-abbrev pub outputs_of : Naming → List PartForm
-outputs_of n = map operand_form n.now.fields
+-- what stands for so many fields at the end
+abbrev pub outputs_of : ℕ → Naming → List PartForm
+outputs_of fields n = map (λ f. operand_form (n.now.fields f)) (range_with_len 0 fields)

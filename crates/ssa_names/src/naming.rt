@@ -4,8 +4,8 @@ ghost use Rattle.dom_ast.specs.Flanks.{flank_form, flanked_outcome, flanks_nodes
 ghost use Rattle.dom_ast.specs.Named.{named_form, named_nodes, named_outcome};
 ghost use Rattle.dom_ast.specs.Resolved.{form};
 ghost use Rattle.dom_ast.specs.Straight.{step_form};
-ghost use Rattle.ssa_names.specs.Naming.{named, named_item, named_read, named_set, named_write, operand_form, outputs_of, plain};
-ghost use Rattle.ssa_names.specs.Tables.{current_of, naming_of};
+ghost use Rattle.ssa_names.specs.Naming.{named, operand_form, outputs_of, plain};
+ghost use Rattle.ssa_names.specs.inner.Tables.{current_of, tabled, tabled_item, tabled_of, tabled_read, tabled_set, tabled_write};
 
 use crate::operand::{Operand, at, part};
 use crate::renaming::renamed;
@@ -21,9 +21,9 @@ pub fn name(alloc: Global, steps: Flanked) -> Result<Named, Memory>
     requires { flanks_nodes (map flank_form steps.items) < 2 ^ 23 }
     ensures fields { IfOk result (λ r. r.fields ≡ steps.fields) }
     ensures arrays { IfOk result (λ r. r.arrays ≡ steps.arrays) }
-    ensures items { IfOk result (λ r. map named_form r.items ≡ (named (length steps.fields) (length steps.arrays) steps.fresh (map flank_form steps.items)).items) }
-    ensures outputs { IfOk result (λ r. map form r.outputs ≡ outputs_of (named (length steps.fields) (length steps.arrays) steps.fresh (map flank_form steps.items))) }
-    ensures means { IfOk result (λ r. AgreeUnder (λ hash packet state. length packet ≡ length steps.fields) (λ hash packet state. named_outcome hash (map named_form r.items) (map form r.outputs) packet state) (λ hash packet state. flanked_outcome hash (map flank_form steps.items) packet state)) }
+    ensures items { IfOk result (λ r. map named_form r.items ≡ (named (map flank_form steps.items)).items) }
+    ensures outputs { IfOk result (λ r. map form r.outputs ≡ outputs_of (length steps.fields) (named (map flank_form steps.items))) }
+    ensures means { IfOk result (λ r. AgreeUnder (λ hash packet state. length packet ≡ length steps.fields) (λ hash. named_outcome hash (map named_form r.items) (map form r.outputs)) (λ hash. flanked_outcome hash (map flank_form steps.items))) }
     ensures few { IfOk result (λ r. named_nodes (map named_form r.items) (map form r.outputs) < 2 ^ 25) }
 {
     let Flanked {
@@ -52,7 +52,7 @@ fn walked(
     items: Vec<FlankItem>,
 ) -> Result<Walk, Memory>
     requires { length items.items < 2 ^ 32 }
-    ensures { IfOk result (λ w. naming_of w ≡ named fields arrays fresh (map flank_form items.items)) }
+    ensures { IfOk result (λ w. tabled_of w ≡ tabled fields arrays fresh (map flank_form items.items)) }
 {
     let tables = Tables::new(alloc, fields, arrays, fresh)?;
     let mut walk = Walk {
@@ -87,7 +87,7 @@ impl Walk {
     // One flank or step more.
     fn take(&mut self, alloc: Global, item: FlankItem) -> Result<(), Memory>
         requires { length self.old.items < 2 ^ 32 }
-        ensures list { OnOk result (naming_of self.new ≡ named_item (naming_of self.old) (flank_form item)) }
+        ensures list { OnOk result (tabled_of self.new ≡ tabled_item (tabled_of self.old) (flank_form item)) }
         ensures few { OnOk result (length self.new.items ≤ length self.old.items + 1) }
     {
         match item {
@@ -111,7 +111,7 @@ impl Walk {
     // A read flank.
     fn read(&mut self, array: u32, index: Operand) -> Result<(), Memory>
         requires { length self.old.items < 2 ^ 32 }
-        ensures list { OnOk result (naming_of self.new ≡ named_read (naming_of self.old) array index) }
+        ensures list { OnOk result (tabled_of self.new ≡ tabled_read (tabled_of self.old) array index) }
         ensures few { OnOk result (length self.new.items ≤ length self.old.items + 1) }
     {
         let value = self.next();
@@ -126,7 +126,7 @@ impl Walk {
     // A step: no item where it is a copy, else one that makes its value.
     fn set(&mut self, alloc: Global, step: Step) -> Result<(), Memory>
         requires { length self.old.items < 2 ^ 32 }
-        ensures list { OnOk result (naming_of self.new ≡ named_set (naming_of self.old) (step_form step) (plain (current_of self.old.tables) (form step.value))) }
+        ensures list { OnOk result (tabled_of self.new ≡ tabled_set (tabled_of self.old) (step_form step) (plain (current_of self.old.tables) (form step.value))) }
         ensures few { OnOk result (length self.new.items ≤ length self.old.items + 1) }
     {
         let Step { target, value } = step;
@@ -145,7 +145,7 @@ impl Walk {
 
     // A write flank.
     fn write(&mut self, array: u32) -> Result<(), Memory>
-        ensures list { OnOk result (naming_of self.new ≡ named_write (naming_of self.old) array) }
+        ensures list { OnOk result (tabled_of self.new ≡ tabled_write (tabled_of self.old) array) }
         ensures few { OnOk result (length self.new.items ≤ length self.old.items + 1) }
     {
         self.items.push(NamedItem::Write {

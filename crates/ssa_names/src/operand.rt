@@ -1,6 +1,7 @@
 ghost use Rattle.std.specs.Prelude.{◌≡◌, slice_set};
 ghost use Rattle.dom_ast.specs.Resolved.{form};
-ghost use Rattle.ssa_names.specs.Naming.{at as operand_at, operand_form};
+ghost use Rattle.ssa_names.specs.Naming.{operand_form};
+ghost use Rattle.ssa_names.specs.inner.Tables.{at as operand_at};
 
 use dom_ast::Part;
 

@@ -2,7 +2,7 @@ ghost use Rattle.std.specs.Prelude.{◌≡◌, map, IfOk};
 ghost use Rattle.dom_ast.specs.Resolved.{form};
 ghost use Rattle.dom_ast.specs.inner.PartOps.{op_form};
 ghost use Rattle.ssa_names.specs.Naming.{renamed as renamed_form};
-ghost use Rattle.ssa_names.specs.Tables.{current_of, op_renamed};
+ghost use Rattle.ssa_names.specs.inner.Tables.{current_of, op_renamed};
 
 use crate::operand::{at, part as part_of};
 use crate::tables::Tables;

@@ -1,7 +1,7 @@
 ghost use Rattle.std.specs.Prelude.{◌≡◌, IfOk};
 ghost use Rattle.dom_ast.specs.Resolved.{form};
-ghost use Rattle.ssa_names.specs.Naming.{assigned, first_fields, place_operand, plain, read_at, starting};
-ghost use Rattle.ssa_names.specs.Tables.{current_of};
+ghost use Rattle.ssa_names.specs.Naming.{place_operand, plain};
+ghost use Rattle.ssa_names.specs.inner.Tables.{current_of, first_fields, rows_assigned, rows_of, rows_read, starting_rows};
 
 use crate::operand::{Operand, at, put};
 use dom_ast::{Goal, Part, Place};
@@ -24,7 +24,7 @@ pub struct Tables {
 impl Tables {
     /// The entered fields, and the number 0 for all else.
     pub fn new(alloc: Global, fields: u32, arrays: usize, fresh: u32) -> Result<Tables, Memory>
-        ensures { IfOk result (λ now. current_of now ≡ starting fields arrays fresh) }
+        ensures { IfOk result (λ now. rows_of now ≡ starting_rows fields arrays fresh) }
     {
         let zero = Operand::Number(0);
         Ok(Tables {
@@ -61,7 +61,7 @@ impl Tables {
 
     /// Lets the operand stand for a target.
     pub fn assign(&mut self, target: Goal, operand: Operand)
-        ensures { current_of self.new ≡ assigned target operand (current_of self.old) }
+        ensures { rows_of self.new ≡ rows_assigned target operand (rows_of self.old) }
     {
         match target {
             Goal::Field(k) => put(self.fields.as_mut_slice(), k, operand),
@@ -72,7 +72,7 @@ impl Tables {
 
     /// Lets the operand stand for the word of an array that is read at an index.
     pub fn read(&mut self, array: u32, index: Operand, word: Operand)
-        ensures { current_of self.new ≡ read_at array index word (current_of self.old) }
+        ensures { rows_of self.new ≡ rows_read array index word (rows_of self.old) }
     {
         put(self.arrays.as_mut_slice(), array, word);
         put(self.indexes.as_mut_slice(), array, index);

@@ -1,4 +1,4 @@
-use Rattle.std.proofs.Common.{◌≡◌, ◌+◌, ◌∷◌, drop, arith}
+use Rattle.std.proofs.Common.{arith}
 use Rattle.std.proofs.lemmas.Result.{err_from_is_err_and}
 use Rattle.dom_checks.proofs.HeadSteps.{drop_at, first_of_heads, left_to_check, left_to_declare}
 use Rattle.dom_checks.proofs.heads.heads.Goals as goal

@@ -1,32 +1,22 @@
-use Rattle.std.proofs.Common.{◌≡◌, ◌++◌, ◌∷◌, [], length, nat_lt, true, None, refl, rules, arith}
-use Rattle.std.proofs.lemmas.Result.{err_from_is_err_and}
-use Rattle.std.proofs.lemmas.Bool.{lt-ltb}
-use Rattle.dom_checks.specs.declared.faults.CheckFault.TheVariants as fault
-use Rattle.dom_checks.specs.declared.faults.Limit.TheVariants as limit
-use Rattle.dom_checks.specs.Scope.{with_global}
-use Rattle.dom_checks.specs.Walk.{check, first_fault, global_checks, name_checks}
-use Rattle.dom_checks.proofs.FirstFaults.{both_hold, first_behind, first_front}
+use Rattle.std.proofs.Common.{◌<◌, subst}
+use Rattle.dom_ast.specs.declared.program.Head.TheVariants as head
+use Rattle.dom_checks.specs.Answers.{IsFirst}
+use Rattle.dom_checks.specs.Walk.{head_checks}
+use Rattle.dom_checks.proofs.HeadSteps.{global_holds, global_name, global_rest, handed_on}
 use Rattle.dom_checks.proofs.heads.with_global.Goals as goal
 
 pub returns-in_err-check_name-clause-fault : goal.returns-in_err-check_name-clause-fault
 returns-in_err-check_name-clause-fault c =
-    let p = err_from_is_err_and c.from_residual.result c.from_residual.ensures.1 in
-    rw (p.1, p.2) (first_front c.in_err-check_name.field-0.0 (name_checks c.args.scope c.args.at c.args.name.now) _ c.in_err-check_name.ensures.fault)
+    handed_on c.from_residual.result c.in_err-check_name.field-0.0 (λ f. IsFirst f (head_checks c.args.scope (head.Global c.args.at c.args.name.now c.args.brackets.now c.args.init.now))) c.from_residual.ensures.1
+    (global_name c.args.scope c.args.at c.args.name.now c.args.brackets.now c.args.init.now c.in_err-check_name.field-0.0 c.in_err-check_name.ensures.fault)
 
 pub returns-in_err-array-clause-fault : goal.returns-in_err-array-clause-fault
 returns-in_err-array-clause-fault c =
-    let p = err_from_is_err_and c.from_residual-in_err-array.result c.from_residual-in_err-array.ensures.1 in
-    let room : nat_lt (length c.args.scope.arrays) 32 ≡ true = lt-ltb _ _ (omega arith) in
-    let few : first_fault (check (fault.TooLarge limit.Arrays c.args.at) (nat_lt (length c.args.scope.arrays) 32) ∷ []) ≡ None = rw room refl in
-    rw (p.1, p.2)
-    (first_behind c.in_err-array.field-0.0 (name_checks c.args.scope c.args.at c.args.name.now) _ c.in_ok-check_name.ensures.holds
-    (first_behind c.in_err-array.field-0.0 (check (fault.TooLarge limit.Arrays c.args.at) (nat_lt (length c.args.scope.arrays) 32) ∷ []) _ few c.in_err-array.ensures.fault))
+    let room = subst (λ n. n < 32) c.arrays_count.ensures.number c.if-arrays_count-ge32.false in
+    handed_on c.from_residual-in_err-array.result c.in_err-array.field-0.0 (λ f. IsFirst f (head_checks c.args.scope (head.Global c.args.at c.args.name.now c.args.brackets.now c.args.init.now))) c.from_residual-in_err-array.ensures.1
+    (global_rest c.args.scope c.args.at c.args.name.now c.args.brackets.now c.args.init.now c.in_err-array.field-0.0 c.in_ok-check_name.ensures.holds room c.in_err-array.ensures.fault)
 
 pub returns-clause-holds : goal.returns-clause-holds
 returns-clause-holds c =
-    let room : nat_lt (length c.args.scope.arrays) 32 ≡ true = lt-ltb _ _ (omega arith) in
-    let few : first_fault (check (fault.TooLarge limit.Arrays c.args.at) (nat_lt (length c.args.scope.arrays) 32) ∷ []) ≡ None = rw room refl in
-    let rest = global_checks (with_global c.args.scope c.args.name.now c.args.brackets.now) c.args.at c.args.brackets.now c.args.init.now in
-    let one = check (fault.TooLarge limit.Arrays c.args.at) (nat_lt (length c.args.scope.arrays) 32) ∷ [] in
-    both_hold (name_checks c.args.scope c.args.at c.args.name.now) (one ++ rest) c.in_ok-check_name.ensures.holds
-    (both_hold one rest few c.in_ok-array.ensures.holds)
+    let room = subst (λ n. n < 32) c.arrays_count.ensures.number c.if-arrays_count-ge32.false in
+    global_holds c.args.scope c.args.at c.args.name.now c.args.brackets.now c.args.init.now c.in_ok-check_name.ensures.holds room c.in_ok-array.ensures.holds

@@ -1,4 +1,4 @@
-use Rattle.std.proofs.Common.{◌≡◌, ℕ, List, map, ap, ◌∙◌}
+use Rattle.std.proofs.Common.{ℕ, List, map, ap, ◌∙◌}
 use Rattle.dom_checks.proofs.HeadSteps.{declares_struct}
 use Rattle.dom_checks.proofs.heads.with_head.Goals as goal
 

@@ -1,4 +1,4 @@
-use Rattle.std.proofs.Common.{◌≡◌, ◌+◌, ◌∷◌, ◌++◌, [], map, drop, subst, ap, ◌∙◌, None, arith, rules}
+use Rattle.std.proofs.Common.{◌≡◌, ◌+◌, ◌++◌, map, drop, subst, ap, ◌∙◌, None, arith}
 use Rattle.std.proofs.lemmas.Result.{err_from_is_err_and}
 use Rattle.dom_ast.specs.Form.{transaction_form}
 use Rattle.dom_ast.specs.Resolved.{body_form}

@@ -1,4 +1,4 @@
-use Rattle.std.proofs.Common.{◌≡◌, true, None, ap, ◌∙◌, rules, refl}
+use Rattle.std.proofs.Common.{◌≡◌, true, None, ap, ◌∙◌, rules}
 use Rattle.std.proofs.lemmas.Result.{err_from_is_err_and}
 use Rattle.dom_words.specs.Names.{is_same}
 use Rattle.dom_ast.specs.Form.{transaction_form}

@@ -1,7 +1,7 @@
-use Rattle.std.proofs.Common.{◌≡◌, ◌∷◌, ◌++◌, [], map, length, sym, ap, ◌∙◌, subst, None, arith, rules}
+use Rattle.std.proofs.Common.{◌≡◌, [], map, ap, ◌∙◌, None}
 use Rattle.std.proofs.lemmas.Result.{err_from_is_err_and}
 use Rattle.dom_ast.specs.Form.{program_form, transaction_form}
-use Rattle.dom_ast.specs.PartSize.{bodies_nested, bodies_nodes}
+use Rattle.dom_ast.specs.PartSize.{bodies_nested}
 use Rattle.dom_ast.specs.Resolved.{bodies_form}
 use Rattle.dom_checks.specs.Answers.{IsFirst}
 use Rattle.dom_checks.specs.Resolve.{body_of, resolved}

@@ -1,6 +1,6 @@
 use Rattle.std.proofs.Common.{◌<◌, length, Some, None, ap, ◌∙◌, arith}
 use Rattle.std.proofs.lemmas.Option.{slice_get-get_or}
-use Rattle.dom_checks.specs.Answers.{named}
+use Rattle.dom_checks.specs.inner.Noted.{named}
 use Rattle.dom_checks.proofs.Tables.{firsts_added, firsts_kept}
 use Rattle.dom_checks.proofs.seen.note_first.Goals as goal
 

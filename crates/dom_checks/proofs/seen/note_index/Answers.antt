@@ -1,7 +1,7 @@
 use Rattle.std.proofs.Common.{◌<◌, true, ◌++◌, ◌∷◌, [], length, sym, subst, slice_set, arith}
 use Rattle.dom_ast.specs.declared.part.Place.{Place}
 use Rattle.dom_ast.specs.Kept.{mention}
-use Rattle.dom_checks.specs.Answers.{AreIndexes, IsPlaceBelow}
+use Rattle.dom_checks.specs.inner.Noted.{AreIndexes, IsPlaceBelow}
 use Rattle.dom_checks.proofs.Tables.{indexes_added}
 use Rattle.dom_checks.proofs.seen.note_index.Goals as goal
 

@@ -3,9 +3,10 @@ use Rattle.std.proofs.lemmas.List.{length-map}
 use Rattle.dom_ast.specs.Flanks.{flank_form}
 use Rattle.dom_ast.specs.Named.{named_form}
 use Rattle.dom_ast.specs.Resolved.{form}
-use Rattle.ssa_names.specs.Naming.{named, outputs_of}
+use Rattle.ssa_names.specs.Naming.{operand_form}
+use Rattle.ssa_names.specs.inner.Tables.{tabled}
 use Rattle.ssa_names.proofs.Sizes.{few_flanks}
-use Rattle.ssa_names.proofs.Whole.{whole_few, whole_items, whole_means, whole_outputs, whole_width}
+use Rattle.ssa_names.proofs.Whole.{whole_ends, whole_few, whole_items, whole_means, whole_named, whole_order, whole_outputs, whole_width}
 use Rattle.ssa_names.proofs.naming.name.Goals as goal
 
 pub walked-requires : goal.walked-requires
@@ -24,8 +25,8 @@ invariant_of-result c =
     let xs = map flank_form s.items in
     let items = c.in_ok-tables.field-0.items in
     let outputs = c.in_ok-outputs.outputs in
-    let these : map named_form items ≡ (named fields arrays s.fresh xs).items = search rules in
-    let those : map form outputs ≡ outputs_of (named fields arrays s.fresh xs) = search rules in
+    let these : map named_form items ≡ (tabled fields arrays s.fresh xs).items = search rules in
+    let those : map form outputs ≡ map operand_form (tabled fields arrays s.fresh xs).rows.fields = search rules in
     record {
       some_fields = s.some_fields;
       few_fields = s.few_fields;
@@ -34,9 +35,34 @@ invariant_of-result c =
       first_words = s.first_words;
       few_words = s.few_words;
       ranges = whole_items fields arrays s.fresh xs s.flanks s.ranges (map named_form items) (map form outputs) these those;
+      order = whole_order fields arrays s.fresh xs s.flanks s.ranges (map named_form items) (map form outputs) these those;
       output_ranges = whole_outputs fields arrays s.fresh xs s.flanks s.ranges (map named_form items) (map form outputs) these those;
       one_output_each = sym (length-map outputs form) ∙ whole_width fields arrays s.fresh xs s.flanks s.ranges (map named_form items) (map form outputs) these those;
     }
+
+pub returns-clause-items : goal.returns-clause-items
+returns-clause-items c =
+    let s = c.args.steps in
+    let fields = length s.fields in
+    let arrays = length s.arrays in
+    let xs = map flank_form s.items in
+    let items = c.in_ok-tables.field-0.items in
+    let outputs = c.in_ok-outputs.outputs in
+    let these : map named_form items ≡ (tabled fields arrays s.fresh xs).items = search rules in
+    let those : map form outputs ≡ map operand_form (tabled fields arrays s.fresh xs).rows.fields = search rules in
+    whole_named fields arrays s.fresh xs s.flanks s.ranges (map named_form items) (map form outputs) these those
+
+pub returns-clause-outputs : goal.returns-clause-outputs
+returns-clause-outputs c =
+    let s = c.args.steps in
+    let fields = length s.fields in
+    let arrays = length s.arrays in
+    let xs = map flank_form s.items in
+    let items = c.in_ok-tables.field-0.items in
+    let outputs = c.in_ok-outputs.outputs in
+    let these : map named_form items ≡ (tabled fields arrays s.fresh xs).items = search rules in
+    let those : map form outputs ≡ map operand_form (tabled fields arrays s.fresh xs).rows.fields = search rules in
+    whole_ends fields arrays s.fresh xs s.flanks s.ranges (map named_form items) (map form outputs) these those
 
 pub returns-clause-means : goal.returns-clause-means
 returns-clause-means c =
@@ -46,8 +72,8 @@ returns-clause-means c =
     let xs = map flank_form s.items in
     let items = c.in_ok-tables.field-0.items in
     let outputs = c.in_ok-outputs.outputs in
-    let these : map named_form items ≡ (named fields arrays s.fresh xs).items = search rules in
-    let those : map form outputs ≡ outputs_of (named fields arrays s.fresh xs) = search rules in
+    let these : map named_form items ≡ (tabled fields arrays s.fresh xs).items = search rules in
+    let those : map form outputs ≡ map operand_form (tabled fields arrays s.fresh xs).rows.fields = search rules in
     whole_means fields arrays s.fresh xs s.flanks s.ranges (map named_form items) (map form outputs) these those
 
 pub returns-clause-few : goal.returns-clause-few
@@ -58,6 +84,6 @@ returns-clause-few c =
     let xs = map flank_form s.items in
     let items = c.in_ok-tables.field-0.items in
     let outputs = c.in_ok-outputs.outputs in
-    let these : map named_form items ≡ (named fields arrays s.fresh xs).items = search rules in
-    let those : map form outputs ≡ outputs_of (named fields arrays s.fresh xs) = search rules in
+    let these : map named_form items ≡ (tabled fields arrays s.fresh xs).items = search rules in
+    let those : map form outputs ≡ map operand_form (tabled fields arrays s.fresh xs).rows.fields = search rules in
     whole_few fields arrays s.fresh xs s.flanks s.ranges (map named_form items) (map form outputs) these those c.requires s.few_fields

@@ -2,7 +2,7 @@ use Rattle.std.proofs.Common.{◌≡◌, map, sym, ap, ◌∙◌, rules}
 use Rattle.dom_ast.specs.Resolved.{call, chain, form, ops_of, parts_of}
 use Rattle.dom_ast.specs.inner.PartOps.{op_form, op_forms}
 use Rattle.ssa_names.specs.Naming.{renamed}
-use Rattle.ssa_names.specs.Tables.{current_of}
+use Rattle.ssa_names.specs.inner.Tables.{current_of}
 use Rattle.ssa_names.proofs.Forms.{form_call, form_chain}
 use Rattle.ssa_names.proofs.Renamed.{all_renamed_of, ops_renamed_of}
 use Rattle.ssa_names.proofs.renaming.+renamed.Goals as goal

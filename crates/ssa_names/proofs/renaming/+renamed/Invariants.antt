@@ -2,7 +2,7 @@ use Rattle.std.proofs.Common.{◌≡◌, map}
 use Rattle.dom_ast.specs.Resolved.{form}
 use Rattle.dom_ast.specs.inner.PartOps.{op_form}
 use Rattle.ssa_names.specs.Naming.{renamed}
-use Rattle.ssa_names.specs.Tables.{current_of, op_renamed}
+use Rattle.ssa_names.specs.inner.Tables.{current_of, op_renamed}
 use Rattle.ssa_names.proofs.renaming.+renamed.Given as goal
 
 abbrev pub invariant-renamed_all-loop-part : goal.invariant-renamed_all-loop-part

@@ -1,5 +1,5 @@
 use Rattle.std.proofs.Common.{◌≡◌}
-use Rattle.ssa_names.specs.Naming.{first_fields}
+use Rattle.ssa_names.specs.inner.Tables.{first_fields}
 use Rattle.ssa_names.proofs.tables.entered.Given as goal
 
 abbrev pub invariant-loop-k : goal.invariant-loop-k

@@ -1,4 +1,4 @@
--- What holds wherever names are looked up. Only proofs and contracts of private functions cite this.
+-- What holds wherever names are looked up.
 use Rattle.std.specs.Prelude.{ℕ, ◌≤◌, ◌≡◌, Bool, true, nat_lt, List, length}
 use Rattle.std.specs.List.{list_all}
 use Rattle.dom_words.specs.declared.array.Array.{Array}
