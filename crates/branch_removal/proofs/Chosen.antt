@@ -119,7 +119,7 @@ module _ (h : Hash) (fields arrays : ℕ) where
       let later = bodies_mean (k + guard_count body.guard) (n + acts_ifs body.acts) bodies entered (all_stepped h x first) (if is_chosen h entered body then all_acted h body.acts y else y) (omega arith) parts.2 still here in
       subst (λ d. Same d (run (filter (is_chosen h entered) (body ∷ bodies)) y)) (sym (run-append h fields arrays first rest x)) (subst (λ d. Same (all_stepped h (all_stepped h x first) rest) d) (sym (run_filtered (is_chosen h entered) body bodies y)) later)
 
-  pub means_one : (bodies : List BodyForm) (packet : List ℕ) (state : List (List ℕ)) → are_within (resolved_ranges fields arrays) (bodies_visits bodies) ≡ true → straight_outcome h (straight bodies) packet state ≡ one h bodies packet state
+  pub means_one : (bodies : List BodyForm) (packet : List ℕ) (state : List (List ℕ)) → are_within (resolved_ranges fields arrays) (bodies_visits bodies) ≡ true → straight_outcome h (straight bodies) packet state ≡ one_packet h bodies packet state
   unfolding run
   means_one bodies packet state pl =
       let entered = entering packet state in
