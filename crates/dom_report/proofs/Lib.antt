@@ -1,10 +1,12 @@
 pub mod ClockedPackets
 pub mod Cycles
+pub mod Depths
 pub mod Draws
 pub mod DrivenEnd
 pub mod DrivenLines
 pub mod ElasticLaws
 pub mod ElasticRuns
+pub mod Headings
 pub mod InTurn
 pub mod Packets
 pub mod Parts

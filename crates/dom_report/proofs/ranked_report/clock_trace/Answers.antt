@@ -1,5 +1,6 @@
 use Rattle.std.proofs.Common.{◌≡◌, ◌+◌, ◌<◌, ◌∙◌, [], ap, arith, length, rules, None, replicate, take}
 use Rattle.trace_text.specs.Trace.{entries}
+use Rattle.dom_report.proofs.Depths.{depth_of}
 use Rattle.dom_report.proofs.Packets.{cycle_fits}
 use Rattle.dom_report.proofs.Parts.{idles, on_err, on_ok}
 use Rattle.dom_report.proofs.RankedRuns.{cycles_then, drain_over, drain_part, packet_over, packet_part}
@@ -42,7 +43,8 @@ loop-k-preserved g c =
 
 pub clock_idle-requires : goal.clock_idle-requires
 clock_idle-requires g c =
-    let depth = rw (c.config.ensures.same, c.machine.ensures, c.loop-k.invariant.config) at c.stages-depth.ensures in
+    let depth =
+    depth_of c.stages-depth.result c.config.result.now c.args.ranked.now.machine.config c.machine.result.now c.loop-k.ranked.machine c.stages-depth.ensures c.config.ensures.same c.machine.ensures c.loop-k.invariant.config in
     let cycles =
     cycles_then (g.H.HashUnits.meaning c.args.hash.now) c.args.every c.args.ranked.now c.loop-k.ranked c.args.progress.now c.loop-k.progress (g.S.Sink.held c.args.sink.now) (g.S.Sink.held c.loop-k.sink)
     (g.S.Sink.held c.loop-k.sink) c.args.trace.now c.loop-k.k c.loop-k.invariant.over (omega arith) c.stages-depth.result (length c.args.ranked.now.machine.config.stages) depth in
@@ -50,7 +52,8 @@ clock_idle-requires g c =
 
 pub returns-clause-over : goal.returns-clause-over
 returns-clause-over g c =
-    let depth = rw (c.config.ensures.same, c.machine.ensures, c.loop-k.invariant.config) at c.stages-depth.ensures in
+    let depth =
+    depth_of c.stages-depth.result c.config.result.now c.args.ranked.now.machine.config c.machine.result.now c.loop-k.ranked.machine c.stages-depth.ensures c.config.ensures.same c.machine.ensures c.loop-k.invariant.config in
     on_ok c.clock_idle.result
     (drain_over (g.H.HashUnits.meaning c.args.hash.now) c.args.every c.args.ranked.now c.loop-k.ranked c.args.progress.now c.loop-k.progress (g.S.Sink.held c.args.sink.now) (g.S.Sink.held c.loop-k.sink)
     (g.S.Sink.held c.clock_idle.new.sink) c.args.trace.now c.loop-k.k c.loop-k.invariant.over (omega arith) c.stages-depth.result (length c.args.ranked.now.machine.config.stages) depth c.clock_idle.new.ranked c.clock_idle.new.progress)
@@ -58,7 +61,8 @@ returns-clause-over g c =
 
 pub returns-clause-part : goal.returns-clause-part
 returns-clause-part g c =
-    let depth = rw (c.config.ensures.same, c.machine.ensures, c.loop-k.invariant.config) at c.stages-depth.ensures in
+    let depth =
+    depth_of c.stages-depth.result c.config.result.now c.args.ranked.now.machine.config c.machine.result.now c.loop-k.ranked.machine c.stages-depth.ensures c.config.ensures.same c.machine.ensures c.loop-k.invariant.config in
     on_err c.clock_idle.result
     (drain_part (g.H.HashUnits.meaning c.args.hash.now) c.args.every c.args.ranked.now c.loop-k.ranked c.args.progress.now c.loop-k.progress (g.S.Sink.held c.args.sink.now) (g.S.Sink.held c.loop-k.sink)
     (g.S.Sink.held c.clock_idle.new.sink) c.args.trace.now c.loop-k.k c.loop-k.invariant.over (omega arith) c.stages-depth.result (length c.args.ranked.now.machine.config.stages) depth)

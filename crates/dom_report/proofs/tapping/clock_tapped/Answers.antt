@@ -1,4 +1,5 @@
 use Rattle.std.proofs.Common.{◌≡◌, ◌+◌, ◌∙◌, [], ap, arith, length, rules}
+use Rattle.dom_report.proofs.Depths.{depth_of}
 use Rattle.dom_report.proofs.Packets.{cycle_fits, cycle_more}
 use Rattle.dom_report.proofs.TappedRuns.{cycles_drained, drain_fits, drained, drained_part, packet_part, packet_tapped}
 use Rattle.dom_report.proofs.tapping.clock_tapped.Goals as goal
@@ -45,7 +46,8 @@ loop-k-preserved g c =
 
 pub clock_idle-requires : goal.clock_idle-requires
 clock_idle-requires g c =
-    let depth = rw (c.config.ensures.same, c.machine.ensures, c.loop-k.invariant.config) at c.stages-depth.ensures in (
+    let depth =
+    depth_of c.stages-depth.result c.config.result.now c.args.tapped.now.machine.config c.machine.result.now c.loop-k.tapped.machine c.stages-depth.ensures c.config.ensures.same c.machine.ensures c.loop-k.invariant.config in (
       omega arith,
       (
         rw c.loop-k.invariant.config (c.loop-k.invariant.leaving ∙ c.requires.leaving),
@@ -59,25 +61,29 @@ clock_idle-requires g c =
 
 pub returns-in_default-clock_idle-clause-part : goal.returns-in_default-clock_idle-clause-part
 returns-in_default-clock_idle-clause-part g c =
-    let depth = rw (c.config.ensures.same, c.machine.ensures, c.loop-k.invariant.config) at c.stages-depth.ensures in
+    let depth =
+    depth_of c.stages-depth.result c.config.result.now c.args.tapped.now.machine.config c.machine.result.now c.loop-k.tapped.machine c.stages-depth.ensures c.config.ensures.same c.machine.ensures c.loop-k.invariant.config in
     drained_part (g.H.HashUnits.meaning c.args.hash.now) _ _ _ (g.S.Sink.held c.loop-k.sink) (g.S.Sink.held c.clock_idle.new.sink) c.args.trace.now c.loop-k.k c.loop-k.number c.loop-k.invariant.number c.loop-k.invariant.clocked
     (omega arith) c.args.tapped.now.machine.config c.stages-depth.result depth c.in_default-clock_idle.ensures.part
 
 pub overflow_add-result : goal.overflow_add-result
 overflow_add-result g c =
-    let depth = rw (c.config.ensures.same, c.machine.ensures, c.loop-k.invariant.config) at c.stages-depth.ensures in
+    let depth =
+    depth_of c.stages-depth.result c.config.result.now c.args.tapped.now.machine.config c.machine.result.now c.loop-k.tapped.machine c.stages-depth.ensures c.config.ensures.same c.machine.ensures c.loop-k.invariant.config in
     let room = drain_fits (g.H.HashUnits.meaning c.args.hash.now) _ _ _ (g.S.Sink.held c.loop-k.sink) (g.S.Sink.held c.loop-k.sink) c.args.trace.now c.loop-k.k c.loop-k.number c.loop-k.invariant.number c.loop-k.invariant.clocked
     (omega arith) c.args.tapped.now.machine.config c.stages-depth.result depth c.requires.cycles in
     omega (arith, room)
 
 pub returns-clause-clocked : goal.returns-clause-clocked
 returns-clause-clocked g c =
-    let depth = rw (c.config.ensures.same, c.machine.ensures, c.loop-k.invariant.config) at c.stages-depth.ensures in
+    let depth =
+    depth_of c.stages-depth.result c.config.result.now c.args.tapped.now.machine.config c.machine.result.now c.loop-k.tapped.machine c.stages-depth.ensures c.config.ensures.same c.machine.ensures c.loop-k.invariant.config in
     drained (g.H.HashUnits.meaning c.args.hash.now) _ _ _ (g.S.Sink.held c.loop-k.sink) (g.S.Sink.held c.clock_idle.new.sink) c.args.trace.now c.loop-k.k c.loop-k.number c.loop-k.invariant.number c.loop-k.invariant.clocked
     (omega arith) c.args.tapped.now.machine.config c.stages-depth.result depth _ c.in-Ok-clock_idle.ensures.clocked
 
 pub returns-clause-cycles : goal.returns-clause-cycles
 returns-clause-cycles g c =
-    let depth = rw (c.config.ensures.same, c.machine.ensures, c.loop-k.invariant.config) at c.stages-depth.ensures in
+    let depth =
+    depth_of c.stages-depth.result c.config.result.now c.args.tapped.now.machine.config c.machine.result.now c.loop-k.tapped.machine c.stages-depth.ensures c.config.ensures.same c.machine.ensures c.loop-k.invariant.config in
     cycles_drained (g.H.HashUnits.meaning c.args.hash.now) _ _ _ (g.S.Sink.held c.loop-k.sink) (g.S.Sink.held c.loop-k.sink) c.args.trace.now c.loop-k.k c.loop-k.number c.loop-k.invariant.number c.loop-k.invariant.clocked
     (omega arith) c.args.tapped.now.machine.config c.stages-depth.result depth
