@@ -73,8 +73,13 @@ zero_is : (n : ℕ) → (n == 0) ≡ true → n ≡ 0
 zero_is n e = eqb-true n 0 e
 
 -- a modulus that is taken is the number after a remainder sign
-data Takes (o : BinOp) (q : PartForm) : Type 0 where
-  takes : (m : ℕ) → o ≡ binop.Rem → q ≡ number m → 1 ≤ m → m ≤ 2147483647 → op_modulus o q ≡ m → Takes o q
+record Takes (o : BinOp) (q : PartForm) : Type 0 where
+  modulus : ℕ
+  is_rem : o ≡ binop.Rem
+  is_number : q ≡ number modulus
+  some : 1 ≤ modulus
+  few : modulus ≤ 2147483647
+  taken : op_modulus o q ≡ modulus
 
 number_takes : (m : ℕ) → (as_modulus (number m) == 0) ≡ false → Takes binop.Rem (number m)
 number_takes m e = by_case (is_modulus m) refl e
@@ -82,7 +87,14 @@ number_takes m e = by_case (is_modulus m) refl e
     by_case : (b : Bool) → is_modulus m ≡ b → ((if b then m else 0) == 0) ≡ false → Takes binop.Rem (number m)
     by_case true is e =
         let p = and_parts (nat_le 1 m) (nat_le m 2147483647) is in
-        takes m refl refl (leb-true 1 m p.0) (leb-true m 2147483647 p.1) (ap (λ (b : Bool). if b then m else 0) is)
+        record {
+          modulus = m;
+          is_rem = refl;
+          is_number = refl;
+          some = leb-true 1 m p.0;
+          few = leb-true m 2147483647 p.1;
+          taken = ap (λ (b : Bool). if b then m else 0) is;
+        }
     by_case false is e = absurd (cc)
 
 part_takes : (q : PartForm) → (as_modulus q == 0) ≡ false → Takes binop.Rem q
@@ -205,15 +217,15 @@ module _ (hash : Hash) (fields : ℕ) (packet : List ℕ) (start : List (List �
     names = item_names packet makings
 
     fused_call : (o : BinOp) (q : PartForm) (f : Flattened) (w : ℕ) → Takes o q → w < 2147483648 → Says f (reduced (op_modulus o q) w) → Says f (bin_word o w (value hash names q))
-    fused_call o q f w (takes m is_o is_q some most is_m) h s =
-        let not_zero : (m == 0) ≡ false = ne_eqb m 0 (λ (z : m ≡ 0). omega arith) in
+    fused_call o q f w t h s =
+        let not_zero : (t.modulus == 0) ≡ false = ne_eqb t.modulus 0 (λ (z : t.modulus ≡ 0). omega arith) in
         record {
           below = s.below;
-          word = s.word ∙ ap (λ (n : ℕ). reduced n w) is_m
-              ∙ ap (λ (b : Bool). if b then w else w % m) not_zero
-              ∙ rem_word w m h (omega arith) not_zero
-              ∙ ap (λ (x : BinOp). bin_word x w m) (sym is_o)
-              ∙ ap (λ (x : PartForm). bin_word o w (value hash names x)) (sym is_q);
+          word = s.word ∙ ap (λ (n : ℕ). reduced n w) t.taken
+              ∙ ap (λ (b : Bool). if b then w else w % t.modulus) not_zero
+              ∙ rem_word w t.modulus h (omega arith) not_zero
+              ∙ ap (λ (x : BinOp). bin_word x w t.modulus) (sym t.is_rem)
+              ∙ ap (λ (x : PartForm). bin_word o w (value hash names x)) (sym t.is_number);
         }
 
     module _ (small : IsSmallHash hash) where
